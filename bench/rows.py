@@ -65,7 +65,7 @@ fn vector<T: Decode<()> + Encode, C: Config>(PARAMETERS, config: C) -> usize {
 }
 """
 
-# encode_into_std_write, through a buffer over the room
+# encode_into_buf_write (the original: encode_into_std_write), through a buffer over the room
 STREAM = """
 fn stream<T: Decode<()> + Encode, C: Config>(PARAMETERS, config: C) -> usize {
     let Ok((values, _)) = decode_from_slice::<Vec<T>, _>(alloc, input, config) else {
@@ -78,7 +78,7 @@ fn stream<T: Decode<()> + Encode, C: Config>(PARAMETERS, config: C) -> usize {
             return 0;
         };
         for value in &values {
-            let Ok(count) = encode_into_std_write(value, &mut stream, config) else {
+            let Ok(count) = encode_into_buf_write(value, &mut stream, config) else {
                 return 0;
             };
             at = at.wrapping_add(count);
@@ -346,7 +346,7 @@ def rattle_of(built):
 
 use bincode::config::Config;
 use bincode::{{BorrowDecode, Decode, Encode, borrow_decode_from_slice, config, decode_from_reader, decode_from_slice}};
-use bincode::{{decode_from_buf_read, decode_from_std_read, encode_into_slice, encode_into_std_write, encode_into_writer, encode_to_vec}};
+use bincode::{{decode_from_buf_read, decode_from_std_read, encode_into_buf_write, encode_into_slice, encode_into_writer, encode_to_vec}};
 {blocks}use std::alloc::Global;
 use std::collections::{{BTreeMap, HashMap}};
 use std::io;

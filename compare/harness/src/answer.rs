@@ -14,7 +14,6 @@ pub const UNEXPECTED_VARIANT: u8 = 5;
 pub const UNLISTED_VARIANT: u8 = 6;
 pub const IO: u8 = 15;
 pub const MEMORY: u8 = 16;
-pub const IO_OF_ENCODING: u8 = 104;
 pub const UNEXPECTED_OF_LIST: u8 = 19;
 
 /// An error, by the number of its kind, with its fields.
@@ -128,7 +127,7 @@ impl fmt::Display for Fault {
             IO => write!(f, "Io {{ additional: {first}, kind {second} }}"),
             MEMORY | 106 => write!(f, "Memory"),
             101 => write!(f, "UnexpectedEnd of encoding"),
-            IO_OF_ENCODING => write!(f, "Io of encoding {{ index: {first}, kind {second} }}"),
+            104 => write!(f, "Io of encoding {{ index: {first}, kind {second} }}"),
             kind => write!(f, "error {kind} {first} {second} {third} {text}"),
         }
     }

@@ -1,7 +1,7 @@
 //! The differences that docs/DIFFERENCES.md names: each is told by what the two answers are, and by the row that it stands for.
 use crate::answer::{
-    Answer, Fault, INVALID_INTEGER_TYPE, IO, IO_OF_ENCODING, LIMIT_EXCEEDED,
-    UNEXPECTED_OF_LIST, UNEXPECTED_VARIANT, UNLISTED_VARIANT,
+    Answer, Fault, INVALID_INTEGER_TYPE, IO, LIMIT_EXCEEDED, UNEXPECTED_OF_LIST,
+    UNEXPECTED_VARIANT, UNLISTED_VARIANT,
 };
 use crate::sides::{CONFIGURATIONS, Call, Side};
 use crate::walk::{BETWEEN, Counting, ORIGINAL, PORT, Walk, form_of};
@@ -18,7 +18,6 @@ pub enum Reason {
     Listed,
     Order,
     Memory,
-    Blocks,
 }
 
 impl Reason {
@@ -47,9 +46,6 @@ impl Reason {
             Reason::Memory => {
                 "memory that is wanting aborts: the variants `EncodeError::Memory` and `DecodeError::Memory`"
             }
-            Reason::Blocks => {
-                "`encode_into_std_write` makes a write for each piece, which the index of an `Io` counts: blocks of up to 512 bytes"
-            }
             Reason::Order => {
                 "`HashMap<K, V>` and `HashSet<T>` with `RandomState`: with every hasher; and docs/FORMAT.md, section 6: hashed maps and sets and heaps are written in some order"
             }
@@ -70,11 +66,6 @@ impl Rooms<'_> {
             answer_of(self.original, self.counts.0),
             answer_of(self.port, self.counts.1),
         )
-    }
-
-    /// What stands after the head of each.
-    fn held(&self, call: &Call<'_>, input: &[u8]) -> [&[u8]; 2] {
-        [self.original, self.port].map(|room| &room[HEAD..HEAD + call.span(input)])
     }
 
     /// Whether both are the same.
@@ -181,7 +172,7 @@ fn of_rooms(
     rooms: &Rooms<'_>,
     count: Option<u64>,
 ) -> Option<Vec<Reason>> {
-    let held = rooms.held(call, input);
+    let held = [rooms.original, rooms.port].map(|room| &room[HEAD..HEAD + call.span(input)]);
     let is_order = match count {
         Some(count) => {
             let [one, other] = held.map(|held| held.get(..count as usize));
@@ -193,29 +184,9 @@ fn of_rooms(
     is_order.then_some(vec![Reason::Order])
 }
 
-/// Whether a stream failed alike on both sides, and only the index differs: whole blocks here, whole pieces there.
-fn is_by_blocks(one: &Fault, other: &Fault) -> bool {
-    let [index, ..] = one.numbers;
-    let [blocks, ..] = other.numbers;
-    one.kind == IO_OF_ENCODING
-        && other.kind == IO_OF_ENCODING
-        && blocks < index
-        && one.numbers[1..] == other.numbers[1..]
-        && one.text == other.text
-}
-
 /// Why two answers of a call that writes to a room differ, if docs/DIFFERENCES.md says so.
 fn explain_writing(call: &Call<'_>, input: &[u8], rooms: &Rooms<'_>) -> Option<Vec<Reason>> {
     match rooms.answers() {
-        (Answer::Failed(one, _), Answer::Failed(other, _)) if is_by_blocks(&one, &other) => {
-            let held = rooms.held(call, input);
-            if held[0] == held[1] {
-                return Some(vec![Reason::Blocks]);
-            }
-            let mut reasons = of_rooms(call, input, rooms, None)?;
-            reasons.push(Reason::Blocks);
-            Some(reasons)
-        }
         (Answer::Fine(one, _), Answer::Fine(other, _)) if one == other => {
             of_rooms(call, input, rooms, Some(one))
         }

@@ -6,6 +6,7 @@ pub mod Filled
 pub mod Room
 pub mod Through
 mod Known
+mod PiecesHalted
 mod StreamHalted
 mod Shown
 mod Windowed

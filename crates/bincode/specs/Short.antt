@@ -1,8 +1,12 @@
--- The error of a slice that is too short.
-use Rattle.std.specs.Prelude.{◌≡◌, ◌<◌, ℕ, List, length}
+-- The error of a slice that is too short, and of memory that is refused.
+use Rattle.std.specs.Prelude.{◌≡◌, ◌≢◌, ◌<◌, ℕ, List, [], length}
 use Rattle.bincode_base.specs.declared.error.EncodeError.{EncodeError}
-use Rattle.bincode_base.specs.declared.error.EncodeError.TheVariants.{UnexpectedEnd}
+use Rattle.bincode_base.specs.declared.error.EncodeError.TheVariants.{Memory, UnexpectedEnd}
 
 -- each word of the value is longer than the slice
 abbrev pub TooShort : (List ℕ → Type 0) → ℕ → EncodeError → Type 0
 TooShort Allowed room e = (e ≡ UnexpectedEnd) × ((word : List ℕ) → Allowed word → room < length word)
+
+-- memory was refused to a value that has bytes
+abbrev pub LacksMemory : (List ℕ → Type 0) → EncodeError → Type 0
+LacksMemory Allowed e = (e ≡ Memory) × ((word : List ℕ) → Allowed word → word ≢ [])

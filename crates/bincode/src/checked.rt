@@ -1,15 +1,16 @@
 //! Calls whose contracts say in one sentence what a program relies on: that what was written is read back, that a limit
 //! bounds what is read, and how long a value is.
-ghost use Rattle.std.specs.Prelude.{◌≡◌, ◌-◌, ℕ, List, true, length, take, IfErr, IfOk, MatchResult, Some};
+ghost use Rattle.std.specs.Prelude.{◌≡◌, ◌-◌, ◌^◌, ℕ, List, true, length, take, IfErr, IfOk, MatchResult, Some};
 ghost use Rattle.bincode_base.specs.declared.error.DecodeError.TheVariants.{LimitExceeded};
 ghost use Rattle.bincode_spec.specs.Allowed.{AllowedWord};
 ghost use Rattle.bincode_spec.specs.Answer.{Allows};
-ghost use Rattle.bincode_spec.specs.Decoding.{IsExcused, IsRefused};
+ghost use Rattle.bincode_spec.specs.Decoding.{IsExcused, IsRead, IsRefused};
 ghost use Rattle.bincode_spec.specs.Limited.{LimitedBy, WordBounded};
 ghost use Rattle.bincode_spec.specs.Limits.{FitsLimit};
-ghost use Rattle.bincode_spec.specs.Slice.{EndsSlice};
+ghost use Rattle.bincode_spec.specs.Slice.{EndsSlice, IsAnswer};
 ghost use Rattle.bincode_io.specs.Stream.{TellsBytes, known_bytes, EndsShort, stream_errors};
-ghost use Rattle.bincode.specs.Short.{TooShort};
+ghost use Rattle.bincode.specs.Short.{LacksMemory, TooShort};
+ghost use Rattle.bincode.specs.Streamed.{IsStreamRead};
 
 use crate::borrow::borrow_decode_from_slice;
 use crate::reader::decode_from_reader;
@@ -67,16 +68,18 @@ pub struct VecTrip<T> {
 
 /// Encodes a value into a vector and decodes it from there. If the charges of the encoding stay within the limit, an
 /// equal value is decoded from as many bytes, unless memory is refused. Fails with `Memory` if the allocation of the
-/// vector is refused.
+/// vector is refused, and never otherwise; a value without bytes asks for none.
 pub fn round_trip_by_vec<T: Encode + Decode<()> + Exact, C: Config>(
     alloc: Global,
     value: &T,
     config: C,
 ) -> Result<VecTrip<T>, EncodeError>
-    ensures { IfOk result (λ trip. FitsLimit (T.words.format C.setting) C.bound trip.bytes.items →
+    ensures back { IfOk result (λ trip. FitsLimit (T.words.format C.setting) C.bound trip.bytes.items →
         MatchResult trip.read (λ x. (T.eq value.now x.0 ≡ true) × (x.1 ≡ length trip.bytes.items))
         (IsRefused T.words.may_allocate)) }
+    ensures refused { IfErr result (LacksMemory (AllowedWord (T.words.means value.now) (T.words.format C.setting))) }
 {
+    T::tell_plain();
     T::tell_exact();
     value.tell_valid();
     let bytes = encode_to_vec(alloc, value, config)?;
@@ -85,7 +88,7 @@ pub fn round_trip_by_vec<T: Encode + Decode<()> + Exact, C: Config>(
 }
 
 /// `round_trip` for a type whose encodings all charge the same: the limit has to allow the most that is charged and
-/// held at one time.
+/// held at one time. Under a smaller one it promises what `round_trip` does.
 pub fn round_trip_within<T: Encode + Decode<()> + Exact + ConstantCharge, C: Config>(
     alloc: Global,
     value: &T,
@@ -95,6 +98,9 @@ pub fn round_trip_within<T: Encode + Decode<()> + Exact + ConstantCharge, C: Con
     ensures back { Allows C.bound T.peak → IfOk result (λ trip.
         MatchResult trip.read (λ x. (T.eq value.now x.0 ≡ true) × (x.1 ≡ trip.written))
         (IsRefused T.words.may_allocate)) }
+    ensures fits { IfOk result (λ trip. FitsLimit (T.words.format C.setting) C.bound (take trip.written slice.new) →
+        MatchResult trip.read (λ x. (T.eq value.now x.0 ≡ true) × (x.1 ≡ trip.written))
+        (IsRefused T.words.may_allocate)) }
     ensures short { IfErr result (TooShort (AllowedWord (T.words.means value.now) (T.words.format C.setting))
         (length slice.old)) }
 {
@@ -102,13 +108,15 @@ pub fn round_trip_within<T: Encode + Decode<()> + Exact + ConstantCharge, C: Con
     round_trip(alloc, value, slice, config)
 }
 
-/// Decodes a value from a slice. Under a limit the error is `LimitExceeded` exactly if the bytes need more; else the
+/// Decodes a value from a slice, as `decode_from_slice` does. Under a limit the error is `LimitExceeded` exactly if the bytes need more; else the
 /// result is that without a limit. The limit bounds what is decoded: its bytes, and the elements of all that it holds.
 pub fn read_within<T: Decode<()>, C: Config>(
     alloc: Global,
     src: &[u8],
     config: C,
 ) -> Result<(T, usize), DecodeError>
+    ensures answer { IsAnswer (T.words.format C.setting) C.bound T.words.may_allocate T.words.decodes_to src.now
+        result }
     ensures limited { (limit : ℕ) → C.bound ≡ Some limit → LimitedBy EndsSlice (T.words.format C.setting)
         (T.words.need C.setting) limit (IsRefused T.words.may_allocate) src.now result }
     ensures bounded { (limit : ℕ) → C.bound ≡ Some limit
@@ -123,6 +131,8 @@ pub fn borrow_read_within<'a, T: BorrowDecode<&'a [u8], ()>, C: Config>(
     src: &'a [u8],
     config: C,
 ) -> Result<(T, usize), DecodeError>
+    ensures answer { IsAnswer (T.words.format C.setting) C.bound T.words.may_allocate T.words.decodes_to src.now
+        result }
     ensures limited { (limit : ℕ) → C.bound ≡ Some limit → LimitedBy EndsSlice (T.words.format C.setting)
         (T.words.need C.setting) limit (IsRefused T.words.may_allocate) src.now result }
     ensures bounded { (limit : ℕ) → C.bound ≡ Some limit
@@ -137,6 +147,9 @@ pub fn read_within_from<T: Decode<()>, R: Reader, C: Config>(
     reader: &mut R,
     config: C,
 ) -> Result<T, DecodeError>
+    ensures answer { IsRead R.is_known R.remaining R.end_error
+        (IsExcused R.device T.words.may_allocate (R.failures reader.old) (R.failures reader.new)) R.device.is_uncounted
+        (T.words.format C.setting) C.bound T.words.decodes_to result reader.old reader.new }
     ensures limited { R.is_known reader.old
         → ((missing : ℕ) (e : DecodeError) → R.end_error missing e → ¬ (e ≡ LimitExceeded)) → (limit : ℕ)
         → C.bound ≡ Some limit → LimitedBy R.end_error (T.words.format C.setting) (T.words.need C.setting) limit
@@ -155,6 +168,8 @@ pub fn read_within_from_stream<T: Decode<()>, R: Read, C: Config>(
     stream: &mut R,
     config: C,
 ) -> Result<T, DecodeError>
+    ensures answer { IsStreamRead R.remaining T.words.may_allocate (T.words.format C.setting) C.bound T.words.decodes_to
+        result stream.old stream.new }
     ensures limited { TellsBytes (R.remaining stream.old) → (limit : ℕ) → C.bound ≡ Some limit
         → LimitedBy EndsShort (T.words.format C.setting) (T.words.need C.setting) limit
         (IsExcused stream_errors T.words.may_allocate 0 0) (known_bytes (R.remaining stream.old)) result }
@@ -165,13 +180,16 @@ pub fn read_within_from_stream<T: Decode<()>, R: Read, C: Config>(
     decode_from_std_read(alloc, stream, config)
 }
 
-/// The length in bytes of every encoding of a value. Encodes it once into a counter.
+/// The length in bytes of every encoding of a value. Encodes it once into a counter. Fails with `UnexpectedEnd` if 64
+/// bits do not count its bytes, and never otherwise.
 pub fn encoded_length<E: Encode + Plain, C: Config>(
     value: &E,
     config: C,
 ) -> Result<usize, EncodeError>
-    ensures { IfOk result (λ n. (word : List ℕ) → AllowedWord (E.words.means value.now) (E.words.format C.setting) word
-        → length word ≡ n) }
+    ensures length { IfOk result (λ n. (word : List ℕ) → AllowedWord (E.words.means value.now)
+        (E.words.format C.setting) word → length word ≡ n) }
+    ensures short { IfErr result (TooShort (AllowedWord (E.words.means value.now) (E.words.format C.setting))
+        (2 ^ 64 - 1)) }
 {
     E::tell_plain();
     value.tell_valid();

@@ -23,6 +23,36 @@ mod vec;
 mod window;
 mod writer;
 
+/// Encoding into memory that the call takes. `Encode`, `Decode` and `BorrowDecode` of the containers, texts and pointers
+/// of `std` are always there.
+pub mod alloc {
+    pub use crate::vec::encode_to_vec;
+}
+
+/// The traits, which the language's own types always have, and the time span of `std` as a type of this library.
+pub mod impls {
+    pub use bincode_decode::borrow_decode::BorrowDecode;
+    pub use bincode_decode::decode::Decode;
+    pub use bincode_encode::encode::Encode;
+    pub use bincode_types::own::time::Duration;
+}
+
+/// The streams of `std::io`: the calls that read from them and write to them, the reader and the writers over them, and
+/// the C strings of `std` as types of this library.
+pub mod std_io {
+    pub use crate::next::{
+        decode_from_buf_read, decode_from_buf_read_with_context, decode_next_from_std_read,
+    };
+    pub use crate::streams::{
+        decode_from_std_read, decode_from_std_read_with_context, encode_into_buf_write,
+        encode_into_std_write,
+    };
+    pub use bincode_blocks::BlockWriter;
+    pub use bincode_io::io_read::{IoReader, LentIoReader};
+    pub use bincode_io::io_write::IoWriter;
+    pub use bincode_types::own::ffi::{CStr, CString, NulError};
+}
+
 /// Enums of your own, variant by variant: their laws, and how they are encoded and decoded.
 pub mod enums {
     pub use bincode_enums::borrow::{
@@ -85,6 +115,9 @@ pub use next::{
 };
 pub use reader::decode_from_reader;
 pub use slice::{decode_from_slice, decode_from_slice_with_context, encode_into_slice};
-pub use streams::{decode_from_std_read, decode_from_std_read_with_context, encode_into_std_write};
+pub use streams::{
+    decode_from_std_read, decode_from_std_read_with_context, encode_into_buf_write,
+    encode_into_std_write,
+};
 pub use vec::encode_to_vec;
 pub use writer::encode_into_writer;

@@ -50,6 +50,7 @@ pub struct BlockWriter<'a, W> {
     ghost whole: { length block ≡ BLOCK_LEN },
     ghost inside: { room ≤ length block },
     ghost counts: { written + room ≤ 2 ^ 64 - 1 },
+    ghost closed: { IsSome failure → room ≡ 0 },
 }
 
 impl<W> Drop for BlockWriter<'_, W> {
@@ -134,14 +135,14 @@ fn write_front<W: Write>(
 }
 
 impl<'a, W: Write> BlockWriter<'a, W> {
-    ghost use Rattle.bincode_blocks.specs.Blocks.{stream_behind, held_by, count_of, failure_of, loans_of};
+    ghost use Rattle.bincode_blocks.specs.Blocks.{stream_behind, held_by, count_of, handed_on, failure_of, loans_of};
 
     /// A writer to this stream that holds nothing.
     pub fn new(stream: &'a mut W) -> BlockWriter<'a, W>
         ensures stream { stream_behind result ≡ stream.old }
         ensures loans { loans_of result ≡ stream.entry.ghost_name ∷ [] }
         ensures held { held_by result ≡ [] }
-        ensures start { (count_of result ≡ 0) × (failure_of result ≡ None) }
+        ensures start { (count_of result ≡ 0) × (handed_on result ≡ 0) × (failure_of result ≡ None) }
     {
         BlockWriter {
             stream,
@@ -163,7 +164,7 @@ impl<'a, W: Write> BlockWriter<'a, W> {
     /// The stream's error as `Io`, if the stream failed. Its index is the number of bytes that were handed on before.
     pub fn failure(&self) -> Option<EncodeError>
         ensures { MatchOption result (failure_of self.now ≡ None) (λ e. IsSome (failure_of self.now)
-            × ((written : ℕ) × IsWriteIo written e)) }
+            × IsWriteIo (handed_on self.now) e) }
     {
         let inner = self.failure?;
         Some(EncodeError::Io {
@@ -173,16 +174,20 @@ impl<'a, W: Write> BlockWriter<'a, W> {
     }
 
     /// Hands on the bytes that it holds, with one write where the stream takes them whole; it flushes nothing. Fails
-    /// with `Io` if the stream fails, or failed before; the bytes that it did not take are lost. Nothing is held in
-    /// any case.
+    /// with `Io` if the stream fails, or failed before, and then as well at each later call; the bytes that it did not
+    /// take are lost. The index of the `Io` is the number of bytes that were handed on before. Nothing is held in any
+    /// case.
     pub fn hand_on(&mut self) -> Result<(), EncodeError>
         ensures ok { OnOk result (Appends (W.contents (stream_behind self.old)) (W.contents (stream_behind self.new))
             (held_by self.old)) }
         ensures left { OnErr result (FrontOut W.contents (stream_behind self.old) (held_by self.old)
             (stream_behind self.new)) }
-        ensures error { IfErr result (λ e. (written : ℕ) × IsWriteIo written e) }
+        ensures error { IfErr result (IsWriteIo (handed_on self.new)) }
         ensures empty { held_by self.new ≡ [] }
         ensures count { OnOk result (count_of self.new ≡ count_of self.old) }
+        ensures index { OnErr result (handed_on self.new ≡ handed_on self.old) }
+        ensures failed { OnErr result (IsSome (failure_of self.new)) }
+        ensures whole { OnOk result ((failure_of self.old ≡ None) × (failure_of self.new ≡ None)) }
         ensures loans { loans_of self.new ≡ loans_of self.old }
     {
         self.make_room();
@@ -192,15 +197,18 @@ impl<'a, W: Write> BlockWriter<'a, W> {
         }
     }
 
-    /// `hand_on`, and then flushes the stream. Fails with `Io` also if that fails, and then as well at each later call.
+    /// `hand_on`, and then flushes the stream. Fails with `Io` also if that fails, and then as well at each later call:
+    /// every later piece fails, and so do `hand_on` and `flush`.
     pub fn flush(&mut self) -> Result<(), EncodeError>
         ensures ok { OnOk result (Appends (W.contents (stream_behind self.old)) (W.contents (stream_behind self.new))
             (held_by self.old)) }
         ensures left { OnErr result (FrontOut W.contents (stream_behind self.old) (held_by self.old)
             (stream_behind self.new)) }
-        ensures error { IfErr result (λ e. (written : ℕ) × IsWriteIo written e) }
+        ensures error { IfErr result (IsWriteIo (handed_on self.new)) }
         ensures empty { held_by self.new ≡ [] }
         ensures count { OnOk result (count_of self.new ≡ count_of self.old) }
+        ensures failed { OnErr result (IsSome (failure_of self.new)) }
+        ensures whole { OnOk result ((failure_of self.old ≡ None) × (failure_of self.new ≡ None)) }
         ensures loans { loans_of self.new ≡ loans_of self.old }
     {
         self.hand_on()?;
@@ -223,6 +231,7 @@ impl<'a, W: Write> BlockWriter<'a, W> {
         ensures empty { held_by self.new ≡ [] }
         ensures shut { self.new.room ≡ 0 }
         ensures failed { failure_of self.new ≡ Some cause }
+        ensures handed { handed_on self.new ≡ handed_on self.old }
         ensures loans { loans_of self.new ≡ loans_of self.old }
     {
         self.held = 0;

@@ -40,6 +40,8 @@ mod halts;
 #[cfg(test)]
 mod hashed;
 #[cfg(test)]
+mod holes;
+#[cfg(test)]
 mod left_after_errors;
 #[cfg(test)]
 mod lent_writers;

@@ -7,7 +7,8 @@ use bincode::enc::{Encode, Encoder};
 use bincode::error::EncodeError;
 use bincode::short_text::ShortText;
 use bincode::{
-    Wire, config, encode_into_slice, encode_into_std_write, encode_into_writer, encode_to_vec,
+    Wire, config, encode_into_buf_write, encode_into_slice, encode_into_std_write,
+    encode_into_writer, encode_to_vec,
 };
 use std::alloc::Global;
 use test_helpers::checks::either;
@@ -116,11 +117,15 @@ fn leaves_counter<T: Encode>(value: &T, cause: Cause) -> bool {
     fails_by(outcome, cause) && counter.bytes_written == 2
 }
 
-/// Whether the call for streams does so.
-fn leaves_stream<T: Encode>(value: &T, cause: Cause) -> bool {
+/// Whether the call for streams does so, piece by piece or in blocks.
+fn leaves_stream<T: Encode>(value: &T, cause: Cause, in_blocks: bool) -> bool {
     let mut target = [9u8; 4];
     let mut stream = &mut target[..];
-    let outcome = encode_into_std_write(value, &mut stream, config::standard());
+    let outcome = if in_blocks {
+        encode_into_buf_write(value, &mut stream, config::standard())
+    } else {
+        encode_into_std_write(value, &mut stream, config::standard())
+    };
     fails_by(outcome, cause) && target == [1, 2, 9, 9]
 }
 
@@ -128,7 +133,8 @@ fn leaves_stream<T: Encode>(value: &T, cause: Cause) -> bool {
 fn leaves_two<T: Encode>(alloc: Global, value: &T, cause: Cause) -> bool {
     leaves_slice(value, cause)
         && leaves_counter(value, cause)
-        && leaves_stream(value, cause)
+        && leaves_stream(value, cause, false)
+        && leaves_stream(value, cause, true)
         && fails_by(encode_to_vec(alloc, value, config::standard()), cause)
 }
 

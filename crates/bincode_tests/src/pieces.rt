@@ -2,7 +2,7 @@
 
 use bincode::enc::{Encode, IoWriter};
 use bincode::error::{DecodeError, EncodeError};
-use bincode::{config, decode_from_std_read, encode_into_std_write, encode_into_writer};
+use bincode::{config, decode_from_std_read, encode_into_buf_write, encode_into_writer};
 use std::alloc::Global;
 use std::io;
 use std::io::{ErrorKind, Read, Write};
@@ -158,7 +158,7 @@ fn writing_calls(
     let (front, text) = front_of(sample.word, end.checked_sub(sample.count)?, end)?;
     let mut stream = stream_over(Vec::new(alloc), share, interruptions);
     let outcome = if in_blocks {
-        encode_into_std_write(text, &mut stream, config::standard())
+        encode_into_buf_write(text, &mut stream, config::standard())
     } else {
         write_in_pieces(text, &mut stream)
     };
@@ -315,7 +315,7 @@ fn written_of(kind: ErrorKind, good: usize, in_blocks: bool) -> Option<usize> {
         calls: 0,
     };
     let outcome = if in_blocks {
-        encode_into_std_write(300u32, &mut stream, config::standard())
+        encode_into_buf_write(300u32, &mut stream, config::standard())
     } else {
         write_in_pieces(300u32, &mut stream)
     };
@@ -383,7 +383,7 @@ fn tells_the_end_of_a_stream(rt: HostRuntime) {
 fn tells_the_blocks_before_the_one_that_failed(rt: HostRuntime) {
     let mut room = [9u8; 520];
     let mut stream = &mut room[..];
-    let written = encode_into_std_write([300u16; 200], &mut stream, config::standard());
+    let written = encode_into_buf_write([300u16; 200], &mut stream, config::standard());
     assert!(rt;
         matches!(
             written,

@@ -1,20 +1,21 @@
-use Rattle.std.proofs.Common.{◌≡◌, refl, rules}
+use Rattle.std.proofs.Common.{◌≡◌, rules}
 use Rattle.std.proofs.lemmas.Result.{err_from_is_err_and}
-use Rattle.bincode_blocks.specs.Blocks.{stream_behind}
-use Rattle.bincode.proofs.StreamHalted.{stream-halts, stream-cut}
+use Rattle.bincode_io.specs.Stream.{target_of}
+use Rattle.bincode.proofs.PiecesHalted.{pieces-halt, pieces-index}
 use Rattle.bincode.proofs.streams.encode_into_std_write.Goals as goal
 
-pub returns-in-Err-clause-left : goal.returns-in-Err-clause-left
-returns-in-Err-clause-left g c =
-    let after : c.dst-1.given.0 ≡ stream_behind c.end_after.new.writer = search rules in
-    let a = c.new-writer in
-    let halts = stream-halts g.W.Write.contents a.result c.encode_into_writer.new.writer c.end_after.new.writer a.ensures.held _ _ a.ensures.start.0 a.ensures.start.1 c.in-Err.error c.end_after.result _ refl c.end_after.ensures.ended c.in-Err.ensures.left in
-    rw after (rw a.ensures.stream at halts)
-
-pub returns-in_err-hand_on-clause-left : goal.returns-in_err-hand_on-clause-left
-returns-in_err-hand_on-clause-left g c =
+pub returns-in_err-encode_into_writer-clause-left : goal.returns-in_err-encode_into_writer-clause-left
+returns-in_err-encode_into_writer-clause-left g c =
     let p = err_from_is_err_and c.from_residual.result c.from_residual.ensures.1 in
-    let after : c.dst-in_err-hand_on-1.given.0 ≡ stream_behind c.hand_on.new.self = search rules in
+    let after : c.dst-1.given.0 ≡ target_of c.encode_into_writer.new.writer = search rules in
     let a = c.new-writer in
-    let cut = stream-cut g.W.Write.contents a.result c.encode_into_writer.new.writer c.hand_on.new.self a.ensures.held (g.E.Wire.words.writable g.C.Config.setting c.args.val) _ g.E.Wire.words.own_errors c.in_err-hand_on.field-0.0 c.in_default.ensures.word c.in_err-hand_on.ensures.left c.in_err-hand_on.ensures.error in
-    rw (p.1, p.2, after) (rw a.ensures.stream at cut)
+    let halts = rw a.ensures.stream at (pieces-halt g.W.Write.contents _ _ a.result c.encode_into_writer.new.writer a.ensures.start _ c.in_err-encode_into_writer.ensures.left) in
+    rw (p.1, p.2, after) halts
+
+pub returns-in_err-encode_into_writer-clause-index : goal.returns-in_err-encode_into_writer-clause-index
+returns-in_err-encode_into_writer-clause-index g c =
+    let p = err_from_is_err_and c.from_residual.result c.from_residual.ensures.1 in
+    let after : c.dst-1.given.0 ≡ target_of c.encode_into_writer.new.writer = search rules in
+    let a = c.new-writer in
+    let stops = rw a.ensures.stream at (pieces-index g.W.Write.contents _ _ a.result c.encode_into_writer.new.writer a.ensures.start _ c.in_err-encode_into_writer.ensures.left) in
+    rw (p.1, p.2, after) stops

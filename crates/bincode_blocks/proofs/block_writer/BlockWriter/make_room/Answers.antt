@@ -7,4 +7,4 @@ pub returns-in-Ok-clause-clears : goal.returns-in-Ok-clause-clears
 returns-in-Ok-clause-clears g c =
     let none : failure_of c.args.self.now ≡ None = search rules in
     let is = c.write_front.ensures.same in
-    inl (record { out = held_by c.args.self.now; appended = c.in-Ok.ensures.ok; joined = sym (append-nil _); same_count = omega arith; same_failure = refl }, none, (refl, search rules))
+    inl (record { out = held_by c.args.self.now; appended = c.in-Ok.ensures.ok; joined = sym (append-nil _); same_count = omega arith; handed = search rules; same_failure = refl }, none, (refl, search rules))

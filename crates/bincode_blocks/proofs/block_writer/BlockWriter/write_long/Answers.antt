@@ -35,7 +35,7 @@ returns-in-Err g c = record {
       let out = subst (FrontOut g.W.Write.contents c.make_room.new.self.stream.now c.args.bytes.now) (sym is) c.in-Err.ensures.left in
       record {
         ok = tt;
-        err = long-cut g.W.Write.contents _ c.make_room.new.self _ c.args.bytes.now c.make_room.ensures.clears none out c.fail.ensures.empty (search rules);
+        err = long-cut g.W.Write.contents _ c.make_room.new.self _ c.args.bytes.now c.make_room.ensures.clears none out c.fail.ensures.empty (search rules) c.fail.ensures.handed;
         failures_monotone = le_refl 0;
         same_loans = search rules;
       };

@@ -23,7 +23,7 @@ returns-clause-piece g c =
     let some : 0 < length piece = let empty = c.is_empty.ensures in let not = c.if-is_empty.false in search rules in
     let held : self.held ≤ length self.block = omega arith in
     record {
-      ok = adds-held g.W.Write.contents _ self _ piece _ c.ensure_room.ensures.room room (search rules) some refl (held-grows self.held _ _ self.block _ piece c.copy_piece.ensures refl held) (omega arith) refl counts fits;
+      ok = adds-held g.W.Write.contents _ self _ piece _ c.ensure_room.ensures.room room (search rules) some refl (held-grows self.held _ _ self.block _ piece c.copy_piece.ensures refl held) (omega arith) refl counts fits refl;
       err = tt;
       failures_monotone = le_refl 0;
       same_loans = c.ensure_room.ensures.loans;

@@ -26,7 +26,7 @@ returns-clause-piece g c =
     let full = c.if-self.false in
     let held : self.held < length self.block = omega arith in
     record {
-      ok = adds-held g.W.Write.contents _ self _ piece _ c.ensure_room.ensures.room (omega arith) (search rules) (omega arith) refl (take_more_set self.block self.held c.args.byte held) (omega arith) refl counts fits;
+      ok = adds-held g.W.Write.contents _ self _ piece _ c.ensure_room.ensures.room (omega arith) (search rules) (omega arith) refl (take_more_set self.block self.held c.args.byte held) (omega arith) refl counts fits refl;
       err = tt;
       failures_monotone = le_refl 0;
       same_loans = c.ensure_room.ensures.loans;
