@@ -63,7 +63,7 @@ const TOO_LONG: (&[u8], &[u8]) = (
 );
 
 /// All requests, one after another, or all answers.
-fn joined(alloc: Global, answers: bool) -> Result<Vec<u8>, AllocError> {
+pub fn joined(alloc: Global, answers: bool) -> Result<Vec<u8>, AllocError> {
     let mut bytes = Vec::new(alloc);
     for (request, answer) in &ROWS {
         bytes.extend_from_slice(if answers { *answer } else { *request })?;

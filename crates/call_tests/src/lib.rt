@@ -5,6 +5,10 @@
 #[cfg(test)]
 mod answers;
 #[cfg(test)]
+mod broken;
+#[cfg(test)]
+mod orders;
+#[cfg(test)]
 mod refused_memory_of_calls;
 #[cfg(test)]
 mod reply;

@@ -21,25 +21,19 @@ impl Read for Source<'_> {
     }
 }
 
-/// Takes at most so many bytes a call, and fails from a given call on, or at that call alone. Flushes are calls,
-/// too.
+/// Takes at most so many bytes a call, and fails from a given call on. Flushes are calls, too.
 #[derive(Drop)]
 pub struct Sink<'s> {
     pub held: &'s mut Vec<u8>,
     pub most: usize,
     pub calls: usize,
-    pub kind: ErrorKind,
-    pub fails_once: bool,
 }
 
 impl Sink<'_> {
     /// Counts a call, or fails.
     fn call(&mut self) -> io::Result<()> {
         if self.calls == 0 {
-            if self.fails_once {
-                self.calls = usize::MAX;
-            }
-            return Err(self.kind.into());
+            return Err(ErrorKind::BrokenPipe.into());
         }
         self.calls -= 1;
         Ok(())
@@ -64,7 +58,5 @@ pub fn whole(held: &mut Vec<u8>) -> Sink<'_> {
         held,
         most: usize::MAX,
         calls: usize::MAX,
-        kind: ErrorKind::Other,
-        fails_once: false,
     }
 }

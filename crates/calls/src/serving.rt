@@ -1,5 +1,5 @@
 //! The loop of a server: requests in frames from one stream, and their answers in frames to another.
-ghost use Rattle.std.specs.Prelude.{◌↔◌, ◌+◌, ◌≤◌, IfErr, IfOk, IsTrue, OnOk, vec_len};
+ghost use Rattle.std.specs.Prelude.{◌≡◌, ◌↔◌, ◌+◌, ◌≤◌, ◌^◌, IfErr, IfOk, IsTrue, OnErr, OnOk, vec_len};
 ghost use Rattle.std.specs.Io.Buffered.{reader_remaining};
 ghost use Rattle.std.specs.Io.KnownBytes.{Keeps};
 ghost use Rattle.bincode_io.specs.Stream.{TellsBytes, known_bytes};
@@ -78,8 +78,9 @@ pub enum Failure<E> {
 /// Answers the requests of a stream, frame by frame and in order, up to its end or to a torn frame. It takes and sends
 /// encodings of at most `most` bytes. A frame that holds no request is answered by a refusal, and changes nothing. A
 /// request whose answer is too long is carried out, and answered by `Refusal::AnswerTooLong`.
-/// `buffer` holds one frame at a time. The output is flushed before the loop waits for more input, that is where the
-/// input's buffer does not hold a whole frame. Fails with `Service` where the service fails, with `TooLong` at a length
+/// `buffer` holds one frame at a time. A server that waits for input has written and flushed all answers to the frames
+/// before: the output is flushed where the input's buffer does not hold a whole frame, also where it holds a part of
+/// one. Fails with `Service` where the service fails, with `TooLong` at a length
 /// above `most`, with `Read` or `Write` if a stream fails, with `Memory`, or with `Unsent` if not even a refusal can be
 /// sent. After an error the replies before it may be in a buffer of the output: a caller flushes it, which sends them.
 pub fn serve<S: Service, C: Config, R: Read, W: Write>(
@@ -175,8 +176,9 @@ fn serve_next<S: Service, C: Config, R: Read, W: Write>(
             Err(Failure::TooLong(length))
         }
         Ok(Next::Record { size, content }) => {
-            let Some(next) = offset.checked_add(size) else {
-                return Err(Failure::Read(io::Error::from(ErrorKind::FileTooLarge)));
+            let next = match after(offset, size) {
+                Ok(next) => next,
+                Err(why) => return Err(Failure::Read(why)),
             };
             answer_frame(alloc, service, output, content, config, most)?;
             if !holds_frame(input.buffer(), most) {
@@ -186,6 +188,17 @@ fn serve_next<S: Service, C: Config, R: Read, W: Write>(
         }
         Err(ReadError::Read(why)) => Err(Failure::Read(why)),
         Err(ReadError::Memory(why)) => Err(Failure::Memory(why)),
+    }
+}
+
+/// The offset after a frame. Fails only at 2^64 or above.
+fn after(offset: usize, size: usize) -> io::Result<usize>
+    ensures sum { IfOk result (λ n. n ≡ offset + size) }
+    ensures full { OnErr result (2 ^ 64 ≤ offset + size) }
+{
+    match offset.checked_add(size) {
+        Some(next) => Ok(next),
+        None => Err(io::Error::from(ErrorKind::FileTooLarge)),
     }
 }
 

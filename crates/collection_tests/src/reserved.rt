@@ -1,12 +1,15 @@
-//! What is reserved for a list: the room that its length claims, and no more.
+//! What is reserved for a list: the room that its length claims, no more, and nothing before the claim.
 
+use crate::asserts::all_true;
 use bincode::config;
+use bincode::de::Decode;
 use bumpalo::Bump;
 use own_types::arenas::count_numbers;
 use own_types::pack::Pack;
 use std::alloc::{AllocError, Global};
-use std::collections::{BinaryHeap, HashMap, HashSet, VecDeque};
-use test_helpers::checks::{either, read_word};
+use std::collections::{BTreeMap, BinaryHeap, HashMap, HashSet, VecDeque};
+use test_helpers::checks::{either, is_passed, read_word, within};
+use test_helpers::peak::{is_within, peak};
 
 /// The word of the list of the numbers from 1 to 100, of which each takes a byte.
 fn hundred() -> [u8; 101] {
@@ -74,6 +77,38 @@ fn reserves_what_hashed_ones_claim(rt: HostRuntime) {
     assert!(rt;
         (reserves_set(alloc) || reserves_set(alloc)) && (reserves_map(alloc) || reserves_map(alloc))
     );
+}
+
+/// Lengths of 2^24 and of 2^40, after which nothing stands.
+const LONG: [u8; 5] = [252, 0, 0, 0, 1];
+
+const LONGER: [u8; 9] = [253, 0, 0, 0, 0, 0, 1, 0, 0];
+
+/// Whether both pass a limit of 1024.
+fn pass_limit<T: Decode<()>>(alloc: Global) -> bool {
+    is_passed(within::<T, 1024>(alloc, &LONG)) && is_passed(within::<T, 1024>(alloc, &LONGER))
+}
+
+/// The room is claimed from the limit before any of it is reserved. For the shorter length a list of bytes would take
+/// 16 MiB, and a hashed map more than 285 MB.
+#[test]
+fn claims_before_it_reserves(rt: HostRuntime) {
+    let alloc = rt.alloc();
+    let before = peak(&rt);
+    all_true(
+        &rt,
+        &[
+            pass_limit::<HashMap<u64, u64>>(alloc),
+            pass_limit::<HashSet<u64>>(alloc),
+            pass_limit::<Vec<u8>>(alloc),
+            pass_limit::<Vec<u64>>(alloc),
+            pass_limit::<String>(alloc),
+            pass_limit::<BTreeMap<u64, u64>>(alloc),
+            pass_limit::<VecDeque<u64>>(alloc),
+            pass_limit::<BinaryHeap<u64>>(alloc),
+        ],
+    );
+    assert!(rt; is_within(before, peak(&rt), 4 << 20));
 }
 
 /// The numbers 1 to 3.

@@ -1,5 +1,5 @@
 //! A device with two files, a log and a snapshot: what a read returns, and what a crash may leave.
-ghost use Rattle.std.specs.Prelude.{◌≡◌, ◌≤◌, ℕ, length, IfOk, OnOk};
+ghost use Rattle.std.specs.Prelude.{◌≡◌, ◌≤◌, ℕ, length, IfOk, IsErrOf, OnOk};
 ghost use Rattle.crash_device.specs.Moments.{Only, Elapses};
 ghost use Rattle.crash_device.specs.Files.{Files, IsAppended, IsCut, IsReplaced, Follows};
 ghost use Rattle.crash_device.specs.Files.{AppendsPart, CutsPart, ReplacesOrNot, HasCause};
@@ -54,6 +54,9 @@ pub trait Device {
     /// How often the device has failed.
     ghost faults: { Self → ℕ };
 
+    /// The next sync asks for no memory. For a device whose syncs never do, all are such.
+    ghost syncs_without_memory: { Self → Type 0 } = { λ _. Unit {0} };
+
     /// The bytes of the snapshot. Fails with `Failed` or `Memory`, and changes nothing.
     fn read_snapshot(&mut self, alloc: Global) -> Result<Vec<u8>, DeviceError>
         ensures bytes { IfOk result (λ bytes. bytes.items ≡ (seen self.old).snapshot) }
@@ -72,10 +75,13 @@ pub trait Device {
             (may_leave self.new) }
         ensures cause { HasCause (faults self.old) (faults self.new) result };
 
-    /// Appends bytes to the log. Until a sync, and after an error, a crash leaves a prefix of them. Fails with `Failed`
-    /// or `Memory`.
+    /// Appends bytes to the log. Until a sync, and after an error, a crash leaves a prefix of them. Fails with `Failed`,
+    /// or with `Memory` before anything is appended. After `Ok` a sync does not fail with `Memory`.
     fn append(&mut self, bytes: &[u8]) -> Result<(), DeviceError>
         ensures appended { OnOk result (IsAppended bytes.now (seen self.old) (seen self.new)) }
+        ensures refused { IsErrOf result Memory → seen self.new ≡ seen self.old }
+        ensures left { IsErrOf result Memory → (c : Files) → may_leave self.new c → may_leave self.old c }
+        ensures ready { OnOk result (syncs_without_memory self.new) }
         ensures crash { Follows (AppendsPart bytes.now) (may_leave self.old) (may_leave self.new) }
         ensures time { Elapses (moment self.old) (moment self.new) (left_since self.old) (left_since self.new)
             (may_leave self.new) }
@@ -90,8 +96,10 @@ pub trait Device {
             (may_leave self.new) }
         ensures cause { HasCause (faults self.old) (faults self.new) result };
 
-    /// Puts the log on the disk: after `Ok` a crash leaves what a read returns. Fails with `Failed` or `Memory`.
+    /// Puts the log on the disk: after `Ok` a crash leaves what a read returns. Fails with `Failed`, or with `Memory`
+    /// where it asks for some: never after an append.
     fn sync(&mut self) -> Result<(), DeviceError>
+        ensures told { syncs_without_memory self.old → ¬ IsErrOf result Memory }
         ensures durable { OnOk result (Only (seen self.old) (may_leave self.new)) }
         ensures seen { seen self.new ≡ seen self.old }
         ensures crash { (c : Files) → may_leave self.new c → may_leave self.old c }

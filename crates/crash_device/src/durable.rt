@@ -6,8 +6,9 @@ ghost use Rattle.crash_device.specs.Moments.{Only, Holds, LeavesOnly};
 
 use crate::device::{Device, DeviceError};
 
-/// Appends bytes to the log and syncs it. Fails with `Failed` or `Memory` if a call of the device does; then a prefix
-/// of the bytes may be in the log, and it has to be recovered before the next append.
+/// Appends bytes to the log and syncs it. Fails with `Failed` if a call of the device does; then a prefix of the bytes
+/// may be in the log, and it has to be recovered before the next append. Fails with `Memory` before anything is
+/// appended.
 pub fn append_durably<D: Device>(device: &mut D, bytes: &[u8]) -> Result<(), DeviceError>
     // What a read returns is on the disk.
     requires { Only (D.seen device.old) (D.may_leave device.old) }
@@ -18,6 +19,9 @@ pub fn append_durably<D: Device>(device: &mut D, bytes: &[u8]) -> Result<(), Dev
     // A crash at any moment of the call leaves the log as it was, with a prefix of the bytes at its end.
     ensures any_moment { LeavesOnly D.moment D.left_since device.old device.new
         (AppendsPart bytes.now (D.seen device.old)) }
+    // After `Memory` the files are as they were, and each crash leaves them so.
+    ensures refused { IsErrOf result DeviceError.Memory
+        → Holds D.seen D.may_leave device.new (D.seen device.old) }
     // It does not fail by itself.
     ensures failed { IsErrOf result DeviceError.Failed → D.faults device.old < D.faults device.new }
     ensures later { D.faults device.old ≤ D.faults device.new }

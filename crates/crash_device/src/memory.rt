@@ -1,5 +1,6 @@
 //! A device in memory, which can be told to crash, for tests.
 ghost use Rattle.std.specs.Prelude.{◌≡◌, ◌≤◌, ◌<◌, [], ◌∷◌, ◌++◌, length, take, IfOk, OnErr, OnOk, Some, None};
+ghost use Rattle.std.specs.Prelude.{vec_capacity, vec_len};
 ghost use Rattle.crash_device.specs.declared.device.DeviceError.TheVariants.{Memory as OutOfMemory, Failed};
 ghost use Rattle.std.proofs.Common.{inl};
 ghost use Rattle.crash_device.specs.Files.{IsAppended, IsCut, IsReplaced};
@@ -120,10 +121,11 @@ fn count_call(crash: &mut Option<Crash>) -> Option<usize>
     None
 }
 
-/// Notes that a call failed, and returns the error of the device, or `Memory`.
+/// Notes that a call failed, and returns the error of the device, or `Memory` where there is no room for the note.
 fn fail(failures: &mut Vec<Call>, call: Call) -> DeviceError
     ensures counted { result ≡ Failed → failures.new.items ≡ failures.old.items ++ call ∷ [] }
     ensures later { length failures.old.items ≤ length failures.new.items }
+    ensures room { vec_len failures.old < vec_capacity failures.old → result ≡ Failed }
 {
     match failures.push(call) {
         Ok(()) => DeviceError::Failed,
@@ -206,6 +208,8 @@ impl Device for Memory {
 
     ghost faults = { λ m. length m.failures.items };
 
+    ghost syncs_without_memory = { λ m. vec_len m.failures < vec_capacity m.failures };
+
     ghost counts_now = { λ m t c le now. inl now };
 
     ghost only_now = { λ m c left. only-files m.past.items (files_of m.contents) c left };
@@ -225,6 +229,7 @@ impl Device for Memory {
     }
 
     fn append(&mut self, bytes: &[u8]) -> Result<(), DeviceError> {
+        self.failures.reserve(1)?;
         let stands = count_call(&mut self.crash);
         let taken = stands.map_or(bytes, |n| front(bytes, n));
         let log = joined(self.alloc, &self.contents.log, taken)?;

@@ -7,6 +7,8 @@ mod endings;
 #[cfg(test)]
 mod framed;
 #[cfg(test)]
+mod long;
+#[cfg(test)]
 mod printed;
 #[cfg(test)]
 mod reads;

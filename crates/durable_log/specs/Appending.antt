@@ -5,6 +5,8 @@ use Rattle.bincode_types.specs.TypeWords.{Words}
 use Rattle.frames.specs.Frames.{frame}
 use Rattle.framed_store.specs.Appended.{IsFitting, IsOutside}
 use Rattle.crash_device.specs.Files.{Files, IsAppended, AppendsPart}
+use Rattle.crash_device.specs.Moments.{Holds}
+use Rattle.crash_device.specs.declared.device.DeviceError.TheVariants.{Memory, Failed}
 use Rattle.durable_log.specs.declared.appending.CommandError.{CommandError}
 use Rattle.durable_log.specs.declared.appending.CommandError.TheVariants.{Frame, Device}
 
@@ -21,7 +23,9 @@ abbrev pub IsForced : CommandError → Type 0
 IsForced (Frame e) = IsOutside e
 IsForced (Device e) = Unit {0}
 
--- without a frame the device was not called
-abbrev pub IsUntouched : {D : Type 0} → D → D → CommandError → Type 0
-IsUntouched old new (Frame e) = new ≡ old
-IsUntouched old new (Device e) = Unit {0}
+-- Without a frame the device was not called. Where memory was refused to the device, nothing was appended: its files are
+-- what they were, and each crash leaves them so.
+abbrev pub IsUntouched : {D : Type 0} → (D → Files) → (D → Files → Type 0) → D → D → CommandError → Type 0
+IsUntouched seen may_leave old new (Frame e) = new ≡ old
+IsUntouched seen may_leave old new (Device Memory) = Holds seen may_leave new (seen old)
+IsUntouched seen may_leave old new (Device Failed) = Unit {0}

@@ -25,8 +25,8 @@ pub enum CommandError {
     /// The command was not encoded, or its frame not made. The device was not called.
     #[error("{0}")]
     Frame(AppendError),
-    /// A call of the device failed. The log may have a prefix of the frame, or all of it: recover it before the next
-    /// command.
+    /// A call of the device failed. After `Failed` the log may have a prefix of the frame, or all of it: recover it
+    /// before the next command. After `Memory` nothing was appended.
     #[error("{0}")]
     Device(DeviceError),
 }
@@ -63,8 +63,10 @@ pub fn append_command<T: Encode + Decode<()> + Exact, D: Device, C: Config>(
         → LeavesOnly D.moment D.left_since device.old device.new
         (IsBeforeOrAfter T.words C.setting C.bound most pieces command.now (D.seen device.old)) }
 
+    // Where memory is refused, nothing was appended: the device was not called, or its files are as they were, and each
+    // crash leaves them so.
+    ensures untouched { IfErr result (IsUntouched D.seen D.may_leave device.old device.new) }
     // It does not fail by itself: a command that fits is refused only if memory is, or if the device fails.
-    ensures untouched { IfErr result (IsUntouched device.old device.new) }
     ensures fits { FitsStore T.words C.setting C.bound most command.now → IfErr result IsForced }
     ensures failed { IsErrOf result (CommandError.Device DeviceError.Failed)
         → D.faults device.old < D.faults device.new }
@@ -101,7 +103,7 @@ fn append_frame<D: Device>(device: &mut D, frame: &[u8]) -> Result<(), CommandEr
     ensures any_moment { LeavesOnly D.moment D.left_since device.old device.new
         (AppendsPart frame.now (D.seen device.old)) }
     ensures bytes { All (λ b. b < 256) frame.now }
-    ensures untouched { IfErr result (IsUntouched device.old device.new) }
+    ensures untouched { IfErr result (IsUntouched D.seen D.may_leave device.old device.new) }
     ensures forced { IfErr result IsForced }
     ensures failed { IsErrOf result (CommandError.Device DeviceError.Failed)
         → D.faults device.old < D.faults device.new }

@@ -228,8 +228,8 @@ where
         M.state M.Command.eq M.applies ⟦<(u64, M::Command) as Wire>⟧.words C.setting C.bound most first commands
         command) }
 
-    // It does not fail by itself, as `append_command` does not.
-    ensures untouched { IfErr result (IsUntouched device.old device.new) }
+    // Where memory is refused, nothing was appended, and it does not fail by itself, as `append_command` does not.
+    ensures untouched { IfErr result (IsUntouched D.seen D.may_leave device.old device.new) }
     ensures fits { FitsStore ⟦<(u64, M::Command) as Wire>⟧.words C.setting C.bound most (numbered.now.next, command)
         → IfErr result IsForced }
     ensures failed { IsErrOf result (CommandError.Device DeviceError.Failed)

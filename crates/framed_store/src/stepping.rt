@@ -1,5 +1,5 @@
 //! Stepping over the frames of a store by their lengths alone.
-ghost use Rattle.std.specs.Prelude.{◌+◌, ◌<◌, ◌≤◌, ◌≡◌, length, take, IfOk};
+ghost use Rattle.std.specs.Prelude.{◌+◌, ◌<◌, ◌≤◌, ◌≡◌, ◌^◌, length, take, IfOk, OnErr};
 ghost use Rattle.std.specs.Io.KnownBytes.{Consumes, IsAtEnd};
 ghost use Rattle.bincode_io.specs.Stream.{TellsBytes, known_bytes};
 ghost use Rattle.framed_store.specs.Strides.{Skips, StepsTo, IsLong};
@@ -35,17 +35,25 @@ pub fn step_over<R: Read>(stream: &mut R, most: u32) -> Result<(usize, Ending), 
     ensures { TellsBytes (R.remaining stream.old) → IfOk result (λ over.
         StepsOver most (known_bytes (R.remaining stream.old)) over.0 over.1) }
 {
-    let mut offset: usize = 0;
+    let mut offset = 0;
     'frames: loop {
         match step(stream, most)? {
             Stride::End => return Ok((offset, Ending::Whole)),
             Stride::Torn => return Ok((offset, Ending::Torn { offset })),
             Stride::TooLong(length) => return Ok((offset, Ending::TooLong { offset, length })),
-            Stride::Frame(size) => match offset.checked_add(size) {
-                Some(next) => offset = next,
-                None => return Err(io::Error::from(ErrorKind::FileTooLarge)),
-            },
+            Stride::Frame(size) => offset = after(offset, size)?,
         }
+    }
+}
+
+/// The offset after a frame. Fails only at 2^64 or above.
+fn after(offset: usize, size: usize) -> io::Result<usize>
+    ensures sum { IfOk result (λ n. n ≡ offset + size) }
+    ensures full { OnErr result (2 ^ 64 ≤ offset + size) }
+{
+    match offset.checked_add(size) {
+        Some(next) => Ok(next),
+        None => Err(io::Error::from(ErrorKind::FileTooLarge)),
     }
 }
 

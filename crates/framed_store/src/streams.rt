@@ -1,5 +1,5 @@
 //! Reading a store of frames from a stream, with one frame in memory at a time.
-ghost use Rattle.std.specs.Prelude.{◌≡◌, ◌+◌, ◌<◌, ◌≤◌, length, take, drop, vec_len};
+ghost use Rattle.std.specs.Prelude.{◌≡◌, ◌+◌, ◌<◌, ◌≤◌, ◌^◌, length, take, drop, vec_len};
 ghost use Rattle.std.specs.Prelude.{IfOk, OnOk, OnErr, IfSome, IfNone};
 ghost use Rattle.std.specs.Io.{ReadsAtMost, StartsWith, appended_bytes};
 ghost use Rattle.std.specs.Io.KnownBytes.{Consumes, IsAtEnd, Keeps};
@@ -95,9 +95,10 @@ pub fn survey_stream<R: Read>(
     }
 }
 
-/// The offset after a frame. Fails above 64 bits.
+/// The offset after a frame. Fails only at 2^64 or above.
 fn after(offset: usize, size: usize) -> Result<usize, ReadError>
-    ensures { IfOk result (λ n. n ≡ offset + size) }
+    ensures sum { IfOk result (λ n. n ≡ offset + size) }
+    ensures full { OnErr result (2 ^ 64 ≤ offset + size) }
 {
     match offset.checked_add(size) {
         Some(next) => Ok(next),

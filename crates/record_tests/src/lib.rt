@@ -11,6 +11,8 @@ mod framed_stores;
 #[cfg(test)]
 mod inputs;
 #[cfg(test)]
+mod long_stores;
+#[cfg(test)]
 mod repairs;
 #[cfg(test)]
 mod requests;

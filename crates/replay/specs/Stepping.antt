@@ -1,5 +1,5 @@
 -- One step of a replay.
-use Rattle.std.specs.Prelude.{◌≡◌, ◌+◌, ◌≤◌, ℕ, List, drop, Option}
+use Rattle.std.specs.Prelude.{◌≡◌, ◌+◌, ◌≤◌, ◌^◌, ℕ, List, drop, Option}
 use Rattle.bincode_spec.specs.Format.{Format}
 use Rattle.bincode_spec.specs.Meaning.{Meaning}
 use Rattle.frames.specs.Frames.{Reads}
@@ -24,12 +24,12 @@ TakesStep applies F limit decodes_to most at log old new left steps.Torn = Reads
 TakesStep {S} {A} applies F limit decodes_to most at log old new left (steps.Applied next) =
     (size : ℕ) × (command : A) × IsRecord F limit decodes_to most log size (contents.Value command) × applies old command new × (next ≡ at + size) × (left ≡ drop size log)
 
--- a command is refused in a state; or its frame ends after 2^64 bytes
-abbrev pub StopsFor : {S A E : Type 0} → (S → A → E → Type 0) → S → A → Failure E → Type 0
-StopsFor refuses state command (failures.Refused why) = refuses state command why
-StopsFor refuses state command (failures.Read _) = Unit {0}
-StopsFor refuses state command failures.Damaged = ⊥
-StopsFor refuses state command (failures.Undecodable _) = ⊥
-StopsFor refuses state command (failures.Longer _) = ⊥
-StopsFor refuses state command (failures.TooLong _) = ⊥
-StopsFor refuses state command (failures.Memory _) = ⊥
+-- a command of a frame of this size at this offset is refused in a state; or the frame ends at 2^64 bytes or after
+abbrev pub StopsFor : {S A E : Type 0} → (S → A → E → Type 0) → S → A → ℕ → ℕ → Failure E → Type 0
+StopsFor refuses state command offset size (failures.Refused why) = refuses state command why
+StopsFor refuses state command offset size (failures.Read _) = 2 ^ 64 ≤ offset + size
+StopsFor refuses state command offset size failures.Damaged = ⊥
+StopsFor refuses state command offset size (failures.Undecodable _) = ⊥
+StopsFor refuses state command offset size (failures.Longer _) = ⊥
+StopsFor refuses state command offset size (failures.TooLong _) = ⊥
+StopsFor refuses state command offset size (failures.Memory _) = ⊥

@@ -222,7 +222,7 @@ fn apply_at<M: Machine>(
 ) -> Result<usize, Failure<M::Refusal>>
     ensures next { IfOk result (λ next. next ≡ offset + size) }
     ensures applied { OnOk result (M.applies (M.state machine.old) command (M.state machine.new)) }
-    ensures refused { IfErr result (StopsFor M.refuses (M.state machine.old) command) }
+    ensures refused { IfErr result (StopsFor M.refuses (M.state machine.old) command offset size) }
     ensures unchanged { OnErr result (M.state machine.new ≡ M.state machine.old) }
 {
     let Some(next) = offset.checked_add(size) else {

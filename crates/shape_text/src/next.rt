@@ -6,10 +6,10 @@ ghost use Rattle.bincode_spec.specs.Layers.Agree.{IsCut};
 ghost use Rattle.bincode_spec.specs.Slice.{IsDecoded};
 ghost use Rattle.bincode_shape.specs.Counts.{IsCounted};
 ghost use Rattle.bincode_shape.specs.Shapes.{format_of};
-ghost use Rattle.shape_text.specs.Windows.{shown_bytes, bytes_left};
+ghost use Rattle.shape_text.specs.Windows.{DoublesFrom, shown_bytes, source_of, bytes_left};
 ghost use Rattle.shape_text.specs.Refusals.{Refuses};
 
-use crate::window::Window;
+use crate::window::{CHUNK, Window};
 use bincode::config::Config;
 use bincode::error::DecodeError;
 use bincode::shape::{Measure, Shape, measure_shaped};
@@ -69,7 +69,8 @@ pub fn next_word<R: Read, C: Config>(
     Err(NextError::Read(ErrorKind::Interrupted.into()))
 }
 
-/// Looks for an encoding in what the window shows. `None` if it ends too early, and more is shown now.
+/// Looks for an encoding in what the window shows. `None` if it ends too early, and more is shown now: of a long
+/// window twice as much, or all that is left.
 fn look<R: Read, C: Config>(
     alloc: Global,
     shape: &Shape,
@@ -82,6 +83,10 @@ fn look<R: Read, C: Config>(
     ensures some { 0 < length (shown_bytes window.new) }
     ensures word { IfOk result (λ next. IfSome next (λ x. IsDecoded (format_of shape.now C.setting) C.bound
         (shown_bytes window.new) (λ m. IsCounted shape.now m x.values) x.bytes)) }
+    ensures more { IfOk result (λ next. IsNone next
+        → length (shown_bytes window.old) < length (shown_bytes window.new)) }
+    ensures doubled { IfOk result (λ next. IsNone next → DoublesFrom CHUNK (shown_bytes window.old)
+        (shown_bytes window.new) (R.remaining (source_of window.new))) }
     ensures refused { IfErr result (λ e. Refuses (format_of shape.now C.setting) C.bound
         (bytes_left R.remaining window.old) e) }
 {

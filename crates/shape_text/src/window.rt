@@ -8,8 +8,8 @@ use std::alloc::Global;
 use std::io;
 use std::io::{ErrorKind, Read};
 
-/// How many bytes are read at once.
-const CHUNK: usize = 16_384;
+/// How many bytes are read at once; a window that shows as many is made twice as long.
+pub const CHUNK: usize = 16_384;
 
 /// A stream, and the bytes that were read of it and not yet consumed.
 #[derive(Drop)]
@@ -22,7 +22,7 @@ pub struct Window<R> {
 }
 
 impl<R: Read> Window<R> {
-    ghost use Rattle.shape_text.specs.Windows.{shown_bytes, source_of, bytes_left};
+    ghost use Rattle.shape_text.specs.Windows.{DoublesFrom, shown_bytes, source_of, bytes_left};
 
     /// A window over this stream, which shows nothing yet.
     pub fn new(alloc: Global, stream: R) -> Window<R>
@@ -78,7 +78,10 @@ impl<R: Read> Window<R> {
         // `true` says that a byte came,
         ensures more { IfOk result (λ more. more ≡ true
             → length (shown_bytes self.old) < length (shown_bytes self.new)) }
-        // and `false` that the stream is at its end, and what is shown stays.
+        // and from a length on as many as were shown, unless the stream is at its end;
+        ensures doubled { IfOk result (λ more. more ≡ true → DoublesFrom CHUNK (shown_bytes self.old)
+            (shown_bytes self.new) (R.remaining (source_of self.new))) }
+        // `false` says that the stream is at its end, and what is shown stays.
         ensures end { IfOk result (λ more. more ≡ false → (shown_bytes self.new ≡ shown_bytes self.old)
             × IsAtEnd (R.remaining (source_of self.new))) }
     {

@@ -2,3 +2,4 @@ pub mod Judging
 pub mod Greatest
 pub mod Growing
 pub mod Salvaging
+mod Reaching

@@ -1,5 +1,5 @@
 -- What is done to a store that is repaired.
-use Rattle.std.specs.Prelude.{◌≡◌, ◌≢◌, ◌⊎◌, ◌<◌, ◌-◌, ◌++◌, ℕ, List, [], ◌∷◌, length, take, drop, Option, IsTrue}
+use Rattle.std.specs.Prelude.{◌≡◌, ◌≢◌, ◌⊎◌, ◌<◌, ◌+◌, ◌-◌, ◌++◌, ℕ, List, [], ◌∷◌, length, take, drop, Option, IsTrue}
 use Rattle.std.specs.Io.KnownBytes.{Appends}
 use Rattle.framed_store.specs.Searches.{StandsAt}
 use Rattle.framed_store.specs.Steps.{IsWhole, IsDamaged}
@@ -40,6 +40,20 @@ IsPlan most found end kept repair plans.Cut = (found.ending ≢ endings.Whole) �
 IsPlan most found end kept repair plans.Rewrite = IsTrue repair.drops_damaged × ((0 < found.damaged) ⊎ ((k : ℕ) × EndsAfter most end kept k))
 IsPlan most found end kept repair (plans.Refuse after) = (found.ending ≢ endings.Whole) × (IsTrue repair.cuts → ⊥) × (IsTrue repair.drops_damaged → ⊥)
     × EndsAfter most end kept after × ((k : ℕ) → k < after → ¬ EndsAfter most end kept k)
+
+-- the plan for the last bytes of a file, from this offset on, as one for the file
+abbrev pub of_file : ℕ → Plan → Plan
+of_file start plans.Leave = plans.Leave
+of_file start plans.Cut = plans.Cut
+of_file start plans.Rewrite = plans.Rewrite
+of_file start (plans.Refuse after) = plans.Refuse (start + after)
+
+-- a store of these frames is whole once this was done
+abbrev pub LeavesWhole : Survey → Plan → Type 0
+LeavesWhole found plans.Leave = found.damaged ≡ 0
+LeavesWhole found plans.Cut = found.damaged ≡ 0
+LeavesWhole found plans.Rewrite = Unit {0}
+LeavesWhole found (plans.Refuse _) = ⊥
 
 -- the bytes are none, or begin with a whole frame
 abbrev pub GoesOn : ℕ → List ℕ → Type 0

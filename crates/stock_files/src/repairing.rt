@@ -1,8 +1,9 @@
 //! What is done to a store that is repaired, and what is printed of it.
-ghost use Rattle.std.specs.Prelude.{ℕ, ◌≡◌, ◌↔◌, ◌<◌, ◌≤◌, ◌-◌, length, min, IfNone, IfSome, IsTrue, OnOk};
+ghost use Rattle.std.specs.Prelude.{ℕ, List, ◌≡◌, ◌↔◌, ◌<◌, ◌≤◌, ◌-◌, drop, length, min, IfNone, IfSome, IsTrue};
+ghost use Rattle.std.specs.Prelude.{OnOk};
 ghost use Rattle.framed_store.specs.Searches.{StandsAt};
 ghost use Rattle.stock_files.specs.Repairs.{IsPlan, BeginsWithLonger, EndsAfter, HasNoFrame, IsPassed, GoesOn, IsFrame};
-ghost use Rattle.stock_files.specs.Repairs.{EndsWithFrame, Salvages};
+ghost use Rattle.stock_files.specs.Repairs.{EndsWithFrame, LeavesWhole, Salvages, of_file};
 
 use crate::limit::LONGEST_WORD;
 use framed_store::ending::Ending;
@@ -52,6 +53,18 @@ pub fn start_of_end(length: usize) -> usize
 /// length may lead into the middle of a whole frame, so those before the cut are looked at, too.
 pub fn plan_for(found: &Survey, end: &[u8], repair: Repair) -> Plan
     // It is cut off where no whole frame ends after the cut, or where that is asked for.
+    ensures end { IsPlan LONGEST_WORD found.now end.now (min found.now.length REACH) repair result }
+    // Where these are the last bytes of a file, from `start_of_end` on, this holds of the whole file: none ends after
+    // the cut that begins before these bytes.
+    ensures file { (bytes : List ℕ) → end.now ≡ drop (found.now.length - min found.now.length REACH) bytes
+        → IsPlan LONGEST_WORD found.now bytes found.now.length repair
+        (of_file (found.now.length - min found.now.length REACH) result) }
+{
+    plan_for_end(found, end, repair)
+}
+
+/// What is done to a store of these frames, as `plan_for` tells it of its last bytes.
+fn plan_for_end(found: &Survey, end: &[u8], repair: Repair) -> Plan
     ensures { IsPlan LONGEST_WORD found.now end.now (min found.now.length REACH) repair result }
 {
     let next = frame_past(end, found.length.min(REACH));
@@ -171,7 +184,9 @@ fn is_frame(bytes: &[u8]) -> bool
 }
 
 /// Whether a store of these frames is whole once this was done.
-pub fn is_whole_after(found: &Survey, plan: Plan) -> bool {
+pub fn is_whole_after(found: &Survey, plan: Plan) -> bool
+    ensures { IsTrue result ↔ LeavesWhole found.now plan }
+{
     match plan {
         Plan::Leave | Plan::Cut => found.damaged == 0,
         Plan::Rewrite => true,

@@ -2,5 +2,6 @@
 #![tactic(auto)]
 
 pub mod checks;
+pub mod peak;
 pub mod rows;
 pub mod streams;

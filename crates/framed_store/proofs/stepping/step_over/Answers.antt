@@ -1,11 +1,11 @@
-use Rattle.std.proofs.Common.{◌≡◌, ◌+◌, rules, subst, sym}
+use Rattle.std.proofs.Common.{subst, sym}
 use Rattle.bincode_io.specs.Stream.{known_bytes}
 use Rattle.framed_store.proofs.Strode.{Strode, one-more}
 use Rattle.framed_store.proofs.stepping.step_over.Goals as goal
 
 pub frames-preserved : goal.frames-preserved
 frames-preserved g c =
-    let sum : c.in-Some.next ≡ c.frames.offset + c.in-Frame.size = search rules in record {
+    let sum = c.in_ok-offset-in-Frame.ensures.sum in record {
       is_known = λ tells. c.step.ensures.is_known (c.frames.invariant.is_known tells);
       so_far = λ tells.
           let told = rw c.in-Frame.is at (c.in_ok-step.ensures.told (c.frames.invariant.is_known tells)) in

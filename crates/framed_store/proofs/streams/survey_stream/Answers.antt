@@ -35,7 +35,7 @@ returns-in-TooLong-clause-cut g c = λ tells. survey-cut c.args.most (known_byte
 pub frames-preserved-in-Damaged : goal.frames-preserved-in-Damaged
 frames-preserved-in-Damaged g c =
     let read = rw c.deref.ensures.value at c.in-Damaged.ensures in
-    let next = c.in_ok-offset-in-Damaged.ensures in record {
+    let next = c.in_ok-offset-in-Damaged.ensures.sum in record {
       counts = let counts = c.frames.invariant.counts in let eight = read.1 in omega (arith, counts, eight, next);
       is_known = λ tells. c.take_front.ensures.is_known (c.frames.invariant.is_known tells);
       so_far = λ tells.
@@ -48,7 +48,7 @@ frames-preserved-in-Damaged g c =
 pub frames-preserved : goal.frames-preserved
 frames-preserved g c =
     let read = rw c.deref.ensures.value at c.in-Whole.ensures in
-    let next = c.in_ok-offset-in-Whole.ensures in record {
+    let next = c.in_ok-offset-in-Whole.ensures.sum in record {
       counts = let counts = c.frames.invariant.counts in let eight = read.1 in omega (arith, counts, eight, next);
       is_known = λ tells. c.take_front.ensures.is_known (c.frames.invariant.is_known tells);
       so_far = λ tells.
