@@ -1,6 +1,6 @@
 //! Lists, heaps and pointers.
 
-use own_types::pack::Pack;
+use own_types::batch::Batch;
 use std::alloc::{AllocError, Global};
 use std::borrow::{Cow, CowSlice};
 use std::boxed::BoxedSlice;
@@ -63,7 +63,7 @@ fn keeps_a_list_of_bytes(rt: HostRuntime) {
 
 #[test]
 fn keeps_a_list_of_ones_own(rt: HostRuntime) {
-    let list = list_of(rt.alloc(), 150_000).map(|items| Pack { items });
+    let list = list_of(rt.alloc(), 150_000).map(|items| Batch { items });
     assert!(rt; keeps_value(rt.alloc(), list));
 }
 

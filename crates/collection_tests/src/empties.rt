@@ -6,7 +6,7 @@ use bincode::de::{BorrowDecode, Decode};
 use bincode::error::DecodeError;
 use bincode::ffi::CString;
 use bincode::{borrow_decode_from_slice, config};
-use own_types::pack::Pack;
+use own_types::batch::Batch;
 use std::alloc::Global;
 use std::borrow::CowStr;
 use std::boxed::{BoxedSlice, BoxedStr};
@@ -58,7 +58,7 @@ fn reads_nothing_and_refuses_lengths_without_memory(rt: HostRuntime) {
             reads_none::<BTreeMap<u8, u8>>(alloc),
             reads_none::<HashSet<u8>>(alloc),
             reads_none::<HashMap<u8, u8>>(alloc),
-            reads_none::<Pack<u8>>(alloc),
+            reads_none::<Batch<u8>>(alloc),
         ],
     );
 }

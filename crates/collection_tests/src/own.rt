@@ -8,19 +8,19 @@ use bincode::enc::Encode;
 use bincode::error::DecodeError;
 use bincode::{config, decode_from_reader};
 use derived_types::tags::Mixed;
+use own_by_hand::even::Even;
+use own_by_hand::pack::Pack;
+use own_types::batch::Batch;
 use own_types::book::Book;
 use own_types::code::Code;
 use own_types::either::Either;
-use own_types::even::Even;
 use own_types::foo::Foo;
 use own_types::kind::Kind;
 use own_types::never::Never;
-use own_types::pack::Pack;
 use own_types::pair::Pair;
 use own_types::report::Report;
 use own_types::table::Table;
 use own_types::track::Track;
-use proved_callers::looped::Looped;
 use std::alloc::Global;
 use test_helpers::checks::{each_call_keeps, ends_at_each_place, fault_of, refuses_tag};
 
@@ -60,7 +60,7 @@ fn keeps_structs(rt: HostRuntime) {
 fn keeps_lists(rt: HostRuntime) {
     let alloc = rt.alloc();
     assert!(rt;
-        has_word::<Pack<u8>>(alloc, &[3, 5, 6, 7]) && has_word::<Looped<u8>>(alloc, &[3, 5, 6, 7])
+        has_word::<Batch<u8>>(alloc, &[3, 5, 6, 7]) && has_word::<Pack<u8>>(alloc, &[3, 5, 6, 7])
     );
 }
 
