@@ -11,6 +11,8 @@ mod broken;
 #[cfg(test)]
 mod cells;
 #[cfg(test)]
+mod changed_bytes;
+#[cfg(test)]
 mod collected;
 #[cfg(test)]
 mod containers;
@@ -20,6 +22,10 @@ mod counted;
 mod derived;
 #[cfg(test)]
 mod empties;
+#[cfg(test)]
+mod encodings;
+#[cfg(test)]
+mod events;
 #[cfg(test)]
 mod growing;
 #[cfg(test)]
@@ -48,5 +54,7 @@ mod streams;
 mod tables;
 #[cfg(test)]
 mod texts;
+#[cfg(test)]
+mod unallocated;
 #[cfg(test)]
 mod writers;
