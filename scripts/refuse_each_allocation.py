@@ -71,14 +71,21 @@ WITHOUT_MEMORY = {
         "borrowed::lends_to_an_enum",
         "borrowed::borrows_a_pair",
         "empties::reads_nothing_and_refuses_lengths_without_memory",
+        "unallocated::answers_without_memory",
     ],
     "shape_tests": [],
 }
 
-# Sets and maps of 12,000. Those of 300 are kept by `maps::keeps_sets_and_maps` through the same calls, and each allocation of that
-# test is refused. And the bytes that are looked for in many pairs of shapes, as those of `explained` are in a few.
+# Sets and maps of 12,000, lists of 101,000 and texts of 600,000 bytes. Those of 300 are kept by
+# `containers::keeps_a_value_of_each_type` through the same calls, and each allocation of that test is refused. And the bytes that are
+# looked for in many pairs of shapes, as those of `explained` are in a few.
 SAMPLED = {
-    "collection_tests": ["maps::keeps_large_sets_and_maps", "maps::keeps_large_hashed_sets_and_maps"],
+    "collection_tests": [
+        "containers::keeps_large_lists",
+        "containers::keeps_large_texts",
+        "maps::keeps_large_sets_and_maps",
+        "maps::keeps_large_hashed_sets_and_maps",
+    ],
     "shape_tests": ["changed_shapes::explains_each_difference"],
 }
 

@@ -1,11 +1,10 @@
 //! Types of one's own that borrow bytes of the input.
 
+use bincode::config;
 use bincode::error::DecodeError;
-use bincode::{NoVariants, config};
+use own_by_hand::even::Even;
 use own_types::code::Code;
-use own_types::even::Even;
-use own_types::event::Event;
-use own_types::never::Never;
+use own_types::message::Message;
 use own_types::note::Note;
 use proved_callers::borrowed::{borrow_pair, read_twice};
 use test_helpers::checks::{borrowed, fills};
@@ -23,8 +22,8 @@ fn lends_to_a_struct(rt: HostRuntime) {
     );
 }
 
-/// Whether the tag 3 is told of an event, whose tags are those from 0 to 2.
-fn is_no_event(outcome: Result<(Event, usize), DecodeError>) -> bool {
+/// Whether the tag 3 was found, where those of `Message` are 0 to 2.
+fn is_no_message(outcome: Result<(Message, usize), DecodeError>) -> bool {
     let Err(
         DecodeError::UnexpectedVariant {
             type_name,
@@ -36,7 +35,7 @@ fn is_no_event(outcome: Result<(Event, usize), DecodeError>) -> bool {
     else {
         return false;
     };
-    type_name.as_str() == "Event"
+    type_name.as_str() == "Message"
 }
 
 /// Also where it is lent, the error of a tag that no variant has names the enum that was read.
@@ -44,10 +43,13 @@ fn is_no_event(outcome: Result<(Event, usize), DecodeError>) -> bool {
 fn lends_to_an_enum(rt: HostRuntime) {
     let alloc = rt.alloc();
     assert!(rt;
-        matches!(borrowed(alloc, &[0]), Ok((Event::Start, 1)))
-            && matches!(borrowed(alloc, &[1, 5]), Ok((Event::Stop(5), 2)))
-            && matches!(borrowed(alloc, &[2, 2, 97, 98]), Ok((Event::Note("ab"), 4)))
-            && is_no_event(borrowed(alloc, &[3]))
+        matches!(borrowed(alloc, &[0]), Ok((Message::Start, 1)))
+            && matches!(borrowed(alloc, &[1, 5]), Ok((Message::Stop(5), 2)))
+            && matches!(
+                borrowed(alloc, &[2, 2, 97, 98]),
+                Ok((Message::Note("ab"), 4))
+            )
+            && is_no_message(borrowed(alloc, &[3]))
     );
 }
 
@@ -56,10 +58,6 @@ fn borrows_types_that_own(rt: HostRuntime) {
     let alloc = rt.alloc();
     assert!(rt;
         matches!(borrowed(alloc, &[251, 44, 1]), Ok((Code::Refused, 3)))
-            && matches!(
-                borrowed::<NoVariants<Never>>(alloc, &[]),
-                Err(DecodeError::EmptyEnum { .. })
-            )
             && matches!(borrowed::<Even>(alloc, &[4]), Ok((_, 1)))
     );
 }

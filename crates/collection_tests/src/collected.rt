@@ -1,24 +1,75 @@
 //! Lists of one's own in arenas.
 
-use bincode::config;
+use crate::asserts::all_hold;
+use bincode::config::{self, Config};
 use bincode::de::Decode;
 use bincode::enc::Encode;
 use bincode::error::DecodeError;
+use bincode::{Wire, decode_from_slice_with_context};
 use bumpalo::Bump;
 use own_types::arena::ArenaList;
 use own_types::framed::{Env, Framed};
 use std::alloc::Global;
-use test_helpers::checks::{decoded_with, each_call_writes, ends_at_each_place};
+use test_helpers::checks::{decoded_with, each_call_writes, ends_at_each_place, is_passed};
 
-/// The numbers 1, 2 and 3 after the kind 7.
+/// The numbers 1, 2 and 3.
+const NUMBERS: [u8; 4] = [3, 1, 2, 3];
+
+/// The same after the kind 7.
 const FRAMED: [u8; 5] = [7, 3, 1, 2, 3];
 
-/// What is read of three numbers, with a byte after them, into an arena.
-fn listed(alloc: Global, bump: &Bump) -> Result<(ArenaList<'_, u32>, usize), DecodeError> {
-    decoded_with(alloc, &[3, 1, 2, 3, 99], config::standard(), bump)
+/// What is decoded of the three numbers into an arena. Retries once if an allocation is refused.
+fn listed<C: Config>(
+    alloc: Global,
+    bump: &Bump,
+    config: C,
+) -> Result<(ArenaList<'_, u32>, usize), DecodeError> {
+    decoded_with(alloc, &NUMBERS, config, bump)
 }
 
-/// Whether each call writes the value as this word, and in this context no front of it is one.
+/// Whether the three numbers were decoded, from four bytes.
+fn is_listed(outcome: Result<(ArenaList<'_, u32>, usize), DecodeError>) -> bool {
+    matches!(outcome, Ok((ArenaList { items: [1, 2, 3] }, 4)))
+}
+
+#[test]
+fn fills_an_arena_within_a_limit(rt: HostRuntime) {
+    let alloc = rt.alloc();
+    let bump = Bump::new(alloc);
+    let config = config::standard();
+    all_hold(
+        &rt,
+        &[
+            (
+                "a list in an arena",
+                is_listed(listed(alloc, &bump, config)) && ArenaList::<u32>::claim_size() == 16,
+            ),
+            (
+                "a list in an arena, limits 19 and 20",
+                is_passed(listed(alloc, &bump, config.with_limit::<19>()))
+                    && is_listed(listed(alloc, &bump, config.with_limit::<20>())),
+            ),
+        ],
+    );
+}
+
+/// an arena that is refused
+#[test]
+fn answers_that_the_arena_is_full(rt: HostRuntime) {
+    let bump = Bump::new(rt.alloc());
+    bump.set_allocation_limit(Some(0));
+    let refused: Result<(ArenaList<'_, u32>, usize), DecodeError> = decode_from_slice_with_context(
+        rt.alloc(),
+        &NUMBERS,
+        config::standard(),
+        &bump,
+    );
+    assert!(&rt; matches!(refused, Err(DecodeError::Memory)));
+    bump.set_allocation_limit(None);
+    assert!(&rt; is_listed(listed(rt.alloc(), &bump, config::standard())));
+}
+
+/// Whether each call writes the value as this word, and in this context no prefix of it is one.
 fn is_word_in<Context: Copy + Drop, T: Encode + Decode<Context>>(
     alloc: Global,
     value: &T,
@@ -28,24 +79,14 @@ fn is_word_in<Context: Copy + Drop, T: Encode + Decode<Context>>(
     each_call_writes(alloc, value, word) && ends_at_each_place::<Context, T>(alloc, word, context)
 }
 
-#[test]
-fn answers_that_the_arena_is_full(rt: HostRuntime) {
-    let bump = Bump::new(rt.alloc());
-    bump.set_allocation_limit(Some(0));
-    let refused = listed(rt.alloc(), &bump);
-    assert!(&rt; matches!(refused, Err(DecodeError::Memory)));
-    bump.set_allocation_limit(None);
-    let read = listed(rt.alloc(), &bump);
-    assert!(&rt; matches!(read, Ok((ArenaList { items: [1, 2, 3] }, 4))));
-}
-
+/// an arena within a context
 #[test]
 fn lends_the_arena_of_a_context(rt: HostRuntime) {
     let bump = Bump::new(rt.alloc());
     let env = Env { bump: &bump, id: 5 };
     let read: Result<(Framed, usize), DecodeError> = decoded_with(
         rt.alloc(),
-        &[7, 3, 1, 2, 3, 99],
+        &FRAMED,
         config::standard(),
         env,
     );
@@ -57,5 +98,6 @@ fn lends_the_arena_of_a_context(rt: HostRuntime) {
         framed.kind == 7
             && matches!(framed.list.items, [1, 2, 3])
             && is_word_in(rt.alloc(), &framed, &FRAMED, env)
+            && Framed::claim_size() == 17
     );
 }

@@ -1,17 +1,20 @@
-//! What is read after a length of 0: nothing, and no memory is asked for. And a length that passes the limit is refused
-//! before memory is asked for.
+//! What is read after a length of 0: nothing, and no memory is asked for. And a length that exceeds the limit is
+//! refused before memory is asked for.
 
-use crate::asserts::all_true;
+use crate::asserts::{all_hold, all_true};
 use bincode::de::{BorrowDecode, Decode};
 use bincode::error::DecodeError;
 use bincode::ffi::CString;
 use bincode::{borrow_decode_from_slice, config};
-use own_types::pack::Pack;
+use own_by_hand::pack::Pack;
+use own_types::batch::Batch;
 use std::alloc::Global;
-use std::borrow::CowStr;
+use std::borrow::{CowSlice, CowStr};
 use std::boxed::{BoxedSlice, BoxedStr};
 use std::collections::{BTreeMap, BTreeSet, BinaryHeap, HashMap, HashSet, VecDeque};
 use std::path::PathBuf;
+use std::rc::{RcSlice, RcStr};
+use std::sync::Arc;
 use test_helpers::checks::{is_passed, within};
 
 /// A length of 0, and a byte after it.
@@ -31,34 +34,47 @@ fn read<T: Decode<()>>(alloc: Global, bytes: &[u8]) -> Result<usize, bool> {
     }
 }
 
-/// Whether nothing is read, and the two lengths pass the limit.
-fn reads_none<T: Decode<()>>(alloc: Global) -> bool {
-    read::<T>(alloc, &NONE) == Ok(1)
-        && read::<T>(alloc, &HUGE) == Err(true)
-        && read::<T>(alloc, &LONG) == Err(true)
+/// Whether the two lengths exceed the limit.
+fn refuses_lengths<T: Decode<()>>(alloc: Global) -> bool {
+    read::<T>(alloc, &HUGE) == Err(true) && read::<T>(alloc, &LONG) == Err(true)
 }
 
+/// Whether nothing is read, and the two lengths exceed the limit.
+fn reads_none<T: Decode<()>>(alloc: Global) -> bool {
+    read::<T>(alloc, &NONE) == Ok(1) && refuses_lengths::<T>(alloc)
+}
+
+/// hostile lengths of each container
+/// hostile lengths without memory
+///
+/// What has a block of its own also where it is empty is not read here. The first call decides, so nothing may ask for
+/// memory.
 #[test]
 fn reads_nothing_and_refuses_lengths_without_memory(rt: HostRuntime) {
     let alloc = rt.alloc();
-    all_true(
+    all_hold(
         &rt,
         &[
-            reads_none::<String>(alloc),
-            reads_none::<CString>(alloc),
-            reads_none::<BoxedStr>(alloc),
-            reads_none::<CowStr<'static>>(alloc),
-            reads_none::<PathBuf>(alloc),
-            reads_none::<Vec<u8>>(alloc),
-            reads_none::<Vec<u16>>(alloc),
-            reads_none::<VecDeque<u8>>(alloc),
-            reads_none::<BinaryHeap<u8>>(alloc),
-            reads_none::<BoxedSlice<u8>>(alloc),
-            reads_none::<BTreeSet<u8>>(alloc),
-            reads_none::<BTreeMap<u8, u8>>(alloc),
-            reads_none::<HashSet<u8>>(alloc),
-            reads_none::<HashMap<u8, u8>>(alloc),
-            reads_none::<Pack<u8>>(alloc),
+            ("Vec", reads_none::<Vec<u32>>(alloc)),
+            ("Vec of bytes", reads_none::<Vec<u8>>(alloc)),
+            ("VecDeque", reads_none::<VecDeque<u32>>(alloc)),
+            ("BinaryHeap", reads_none::<BinaryHeap<u32>>(alloc)),
+            ("BoxedSlice", reads_none::<BoxedSlice<u32>>(alloc)),
+            ("RcSlice", refuses_lengths::<RcSlice<u32>>(alloc)),
+            ("Arc of a Vec", refuses_lengths::<Arc<Vec<u32>>>(alloc)),
+            ("CowSlice", reads_none::<CowSlice<'static, u32>>(alloc)),
+            ("BTreeSet", reads_none::<BTreeSet<u32>>(alloc)),
+            ("BTreeMap", reads_none::<BTreeMap<u32, u32>>(alloc)),
+            ("HashSet", reads_none::<HashSet<u32>>(alloc)),
+            ("HashMap", reads_none::<HashMap<u32, u32>>(alloc)),
+            ("a list that is filled", reads_none::<Batch<u32>>(alloc)),
+            ("a list with a loop", reads_none::<Pack<u32>>(alloc)),
+            ("String", reads_none::<String>(alloc)),
+            ("BoxedStr", reads_none::<BoxedStr>(alloc)),
+            ("RcStr", refuses_lengths::<RcStr>(alloc)),
+            ("CowStr", reads_none::<CowStr<'static>>(alloc)),
+            ("CString", reads_none::<CString>(alloc)),
+            ("PathBuf", reads_none::<PathBuf>(alloc)),
         ],
     );
 }

@@ -13,6 +13,8 @@ mod by_shape;
 #[cfg(test)]
 mod cells;
 #[cfg(test)]
+mod changed_bytes;
+#[cfg(test)]
 mod collected;
 #[cfg(test)]
 mod containers;
@@ -22,6 +24,10 @@ mod counted;
 mod derived;
 #[cfg(test)]
 mod empties;
+#[cfg(test)]
+mod encodings;
+#[cfg(test)]
+mod events;
 #[cfg(test)]
 mod growing;
 #[cfg(test)]
@@ -46,5 +52,7 @@ mod shown;
 mod tables;
 #[cfg(test)]
 mod texts;
+#[cfg(test)]
+mod unallocated;
 #[cfg(test)]
 mod writers;

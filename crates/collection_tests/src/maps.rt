@@ -41,7 +41,7 @@ fn hashed_map_of(alloc: Global, count: u32) -> Result<HashMap<u32, u32>, AllocEr
 }
 
 /// Whether an ordered set of `count` keys is kept. Retries once if an allocation is refused.
-fn keeps_set(alloc: Global, count: u32) -> bool {
+pub fn keeps_set(alloc: Global, count: u32) -> bool {
     match set_of(alloc, count) {
         Ok(set) => keeps_value(alloc, Some(set)),
         Err(_) => keeps_value(alloc, set_of(alloc, count).ok()),
@@ -49,7 +49,7 @@ fn keeps_set(alloc: Global, count: u32) -> bool {
 }
 
 /// Whether an ordered map is kept.
-fn keeps_map(alloc: Global, count: u32) -> bool {
+pub fn keeps_map(alloc: Global, count: u32) -> bool {
     match map_of(alloc, count) {
         Ok(map) => keeps_value(alloc, Some(map)),
         Err(_) => keeps_value(alloc, map_of(alloc, count).ok()),
@@ -57,20 +57,14 @@ fn keeps_map(alloc: Global, count: u32) -> bool {
 }
 
 /// Whether a hashed set and a hashed map of so many entries are kept.
-fn keeps_hashed(alloc: Global, count: u32) -> bool {
+pub fn keeps_hashed(alloc: Global, count: u32) -> bool {
     let set = either(hashed_set_of(alloc, count), hashed_set_of(alloc, count));
     let map = either(hashed_map_of(alloc, count), hashed_map_of(alloc, count));
     keeps_value(alloc, set) && keeps_value(alloc, map)
 }
 
-#[test]
-fn keeps_sets_and_maps(rt: HostRuntime) {
-    let alloc = rt.alloc();
-    assert!(rt; keeps_set(alloc, 300) && keeps_map(alloc, 300) && keeps_hashed(alloc, 300));
-}
-
-/// Of the hundreds and thousands of blocks that these ask for only some are refused in turn: the test before has the
-/// same calls for fewer entries.
+/// Of the hundreds and thousands of blocks that these ask for only some are refused in turn:
+/// `containers::keeps_a_value_of_each_type` has the same calls for fewer entries.
 #[test]
 fn keeps_large_sets_and_maps(rt: HostRuntime) {
     assert!(rt; keeps_set(rt.alloc(), 12_000) && keeps_map(rt.alloc(), 12_000));

@@ -5,7 +5,7 @@ use bincode::config;
 use bincode::de::Decode;
 use bumpalo::Bump;
 use own_types::arenas::count_numbers;
-use own_types::pack::Pack;
+use own_types::batch::Batch;
 use std::alloc::{AllocError, Global};
 use std::collections::{BTreeMap, BinaryHeap, HashMap, HashSet, VecDeque};
 use test_helpers::checks::{either, is_passed, read_word, within};
@@ -37,7 +37,7 @@ fn reserves_what_lists_hold(rt: HostRuntime) {
         matches!(read_word::<VecDeque<u8>>(alloc, &word), Some(it) if it.capacity() == 100)
             && matches!(read_word::<BinaryHeap<u8>>(alloc, &word), Some(it) if it.capacity() == 100)
             && matches!(
-                read_word::<Pack<u8>>(alloc, &word), Some(it) if it.items.capacity() == 100
+                read_word::<Batch<u8>>(alloc, &word), Some(it) if it.items.capacity() == 100
             )
     );
 }

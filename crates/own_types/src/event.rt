@@ -1,11 +1,12 @@
-//! An enum that borrows text of the input.
+//! An enum that owns its text, and is read by borrowed decoding too.
 
 mod words;
 
-/// What happened: it began, it ended with this code, or this was said.
+// bincode: with BorrowDecode
+/// What happened: it began, it ended with this code, or this was noted.
 #[derive(Drop, PartialEq)]
-pub enum Event<'a> {
+pub enum Event {
     Start,
     Stop(u32),
-    Note(&'a str),
+    Note(String),
 }

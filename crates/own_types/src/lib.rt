@@ -3,18 +3,18 @@
 
 pub mod arena;
 pub mod arenas;
+pub mod batch;
 pub mod book;
 pub mod code;
 pub mod contact;
 pub mod either;
-pub mod even;
 pub mod event;
 pub mod foo;
 pub mod framed;
 pub mod kind;
+pub mod message;
 pub mod never;
 pub mod note;
-pub mod pack;
 pub mod pair;
 pub mod report;
 pub mod requests;

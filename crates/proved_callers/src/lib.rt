@@ -11,7 +11,6 @@ pub mod fixed;
 pub mod formats;
 pub mod limits;
 pub mod longer;
-pub mod looped;
 pub mod members;
 pub mod rooms;
 pub mod shaped;

@@ -1,15 +1,12 @@
 //! What the types of `event.rt` are written as. Made from that file by the program `derive`, and not edited: run
 //! `derive` on the file again where its types change.
-ghost use Rattle.std.specs.Prelude.{◌≡◌};
-ghost use Rattle.bincode.specs.TypeLaws.{CanonicalWords, ExactWords, PlainWords};
 
 use super::*;
-use bincode::de::{BorrowDecode, BorrowDecoder, Sequential};
+use bincode::de::{BorrowDecode, BorrowDecoder, BorrowedBytes, Decode, Decoder, Sequential};
 use bincode::enc::{Encode, Encoder};
 use bincode::enums::{
-    BorrowDecodeVariants, Enum, Sum, borrow_decode_by_tag, borrow_decode_part,
-    canonical_by_variants, decode_no_variant, encode_variant, enum_claim, exact_by_variants,
-    plain_by_variants,
+    DecodeVariants, Enum, Sum, canonical_by_variants, decode_by_tag, decode_no_variant,
+    decode_part, encode_variant, enum_claim, exact_by_variants, plain_by_variants,
 };
 use bincode::error::{DecodeError, EncodeError};
 use bincode::laws::{Canonical, Exact, Plain};
@@ -20,22 +17,22 @@ type EventStartPart = ();
 
 type EventStopPart = u32;
 
-type EventNotePart<'a> = &'a str;
+type EventNotePart = String;
 
-type EventParts<'a> = VariantOf<
+type EventParts = VariantOf<
     0,
     EventStartPart,
-    VariantOf<1, EventStopPart, VariantOf<2, EventNotePart<'a>, NoMoreVariants<Event<'a>>>>,
+    VariantOf<1, EventStopPart, VariantOf<2, EventNotePart, NoMoreVariants<Event>>>,
 >;
 
-impl<'a> Sum<EventParts<'a>> for Event<'a> {
+impl Sum<EventParts> for Event {
     ghost use Rattle.bincode.specs.Sums.{this, other};
     ghost use Rattle.bincode.specs.EnumWords.{by, no_more, or_else};
     ghost use Rattle.own_types.specs.declared.event.Event.TheVariants.{Start, Stop, Note};
 
     ghost variants = { or_else 0 ⟦<EventStartPart as Wire>⟧.words
         (or_else 1 ⟦<EventStopPart as Wire>⟧.words
-        (or_else 2 ⟦<EventNotePart<'a> as Wire>⟧.words
+        (or_else 2 ⟦<EventNotePart as Wire>⟧.words
         no_more)) };
 
     ghost parts = { elim [
@@ -50,15 +47,12 @@ impl<'a> Sum<EventParts<'a>> for Event<'a> {
         (λ n. elim (n.0) [ ]))) };
 }
 
-impl<'a> Wire for Event<'a> {
-    ghost use Rattle.std.specs.Prelude.{min, ◌+◌, ◌-◌, ◌^◌};
+impl Wire for Event {
     ghost use Rattle.bincode.specs.EnumWords.{enum_words};
 
-    ghost words = { enum_words ⟦<Event<'a> as Sum<EventParts<'a>>>⟧.variants ⟦<Event<'a> as Sum<EventParts<'a>>>⟧.parts };
+    ghost words = { enum_words ⟦<Event as Sum<EventParts>>⟧.variants ⟦<Event as Sum<EventParts>>⟧.parts };
 
-    fn claim_size() -> usize
-        ensures { result ≡ min (4 + ⟦<Event<'a> as Sum<EventParts<'a>>>⟧.variants.claim) (2 ^ 64 - 1) }
-    {
+    fn claim_size() -> usize {
         let widest = EventNotePart::claim_size().max(0);
         let widest = EventStopPart::claim_size().max(widest);
         let widest = EventStartPart::claim_size().max(widest);
@@ -66,60 +60,53 @@ impl<'a> Wire for Event<'a> {
     }
 }
 
-impl<'a> Enum for Event<'a> {
+impl Enum for Event {
     ghost use Rattle.std.specs.Prelude.{refl};
     ghost use Rattle.bincode.specs.EnumWords.{enum_laws, enum_variants};
     ghost use Rattle.own_types.specs.declared.event.Event.TheVariants.{Start, Stop, Note};
 
-    ghost choices = { enum_variants ⟦<Event<'a> as Sum<EventParts<'a>>>⟧.variants
-        ⟦<Event<'a> as Sum<EventParts<'a>>>⟧.made };
+    ghost choices = { enum_variants ⟦<Event as Sum<EventParts>>⟧.variants ⟦<Event as Sum<EventParts>>⟧.made };
 
     fn type_name() -> TypeName {
         TypeName::new("Event")
     }
 
-    ghost laws = { enum_laws ⟦<Event<'a> as Sum<EventParts<'a>>>⟧.variants ⟦<Event<'a> as Sum<EventParts<'a>>>⟧.parts
-        ⟦<Event<'a> as Sum<EventParts<'a>>>⟧.made (elim [
+    ghost laws = { enum_laws ⟦<Event as Sum<EventParts>>⟧.variants ⟦<Event as Sum<EventParts>>⟧.parts
+        ⟦<Event as Sum<EventParts>>⟧.made (elim [
           | Start ↦ refl
           | Stop value ↦ refl
           | Note value ↦ refl
         ]) };
 }
 
-impl<'a> Plain for Event<'a> {
-    fn tell_plain()
-        ensures { PlainWords ⟦<Event<'a> as Wire>⟧.words }
-    {
+impl Plain for Event {
+    fn tell_plain() {
         EventStartPart::tell_plain();
         EventStopPart::tell_plain();
         EventNotePart::tell_plain();
-        plain_by_variants::<Event<'a>>();
+        plain_by_variants::<Event>();
     }
 }
 
-impl<'a> Exact for Event<'a> {
-    fn tell_exact()
-        ensures { ExactWords ⟦<Event<'a> as Wire>⟧.words ⟦<Event<'a> as PartialEq>⟧.eq }
-    {
+impl Exact for Event {
+    fn tell_exact() {
         EventStartPart::tell_exact();
         EventStopPart::tell_exact();
         EventNotePart::tell_exact();
-        exact_by_variants::<Event<'a>>();
+        exact_by_variants::<Event>();
     }
 }
 
-impl<'a> Canonical for Event<'a> {
-    fn tell_canonical()
-        ensures { CanonicalWords ⟦<Event<'a> as Wire>⟧.words }
-    {
+impl Canonical for Event {
+    fn tell_canonical() {
         EventStartPart::tell_canonical();
         EventStopPart::tell_canonical();
         EventNotePart::tell_canonical();
-        canonical_by_variants::<Event<'a>>();
+        canonical_by_variants::<Event>();
     }
 }
 
-impl<'a> Encode for Event<'a> {
+impl Encode for Event {
     fn tell_valid(&self) {
         match self {
             Event::Start => {}
@@ -137,27 +124,21 @@ impl<'a> Encode for Event<'a> {
     }
 }
 
-impl<'a, Context: Drop> BorrowDecodeVariants<&'a [u8], Context> for Event<'a> {
-    fn borrow_decode_variant<D: BorrowDecoder<&'a [u8], Context = Context>>(
+impl<Context: Drop> DecodeVariants<Context> for Event {
+    fn decode_variant<D: Decoder<Context = Context>>(
         tag: u32,
         decoder: &mut D,
-    ) -> Result<Event<'a>, DecodeError> {
+    ) -> Result<Event, DecodeError> {
         match tag {
-            0 => match borrow_decode_part::<&'a [u8], Context, Event<'a>, EventStartPart, D>(
-                tag, 0, decoder,
-            ) {
+            0 => match decode_part::<Context, Event, EventStartPart, D>(tag, 0, decoder) {
                 Ok(()) => Ok(Event::Start),
                 Err(error) => Err(error),
             },
-            1 => match borrow_decode_part::<&'a [u8], Context, Event<'a>, EventStopPart, D>(
-                tag, 1, decoder,
-            ) {
+            1 => match decode_part::<Context, Event, EventStopPart, D>(tag, 1, decoder) {
                 Ok(value) => Ok(Event::Stop(value)),
                 Err(error) => Err(error),
             },
-            2 => match borrow_decode_part::<&'a [u8], Context, Event<'a>, EventNotePart<'a>, D>(
-                tag, 2, decoder,
-            ) {
+            2 => match decode_part::<Context, Event, EventNotePart, D>(tag, 2, decoder) {
                 Ok(value) => Ok(Event::Note(value)),
                 Err(error) => Err(error),
             },
@@ -166,12 +147,20 @@ impl<'a, Context: Drop> BorrowDecodeVariants<&'a [u8], Context> for Event<'a> {
     }
 }
 
-impl<'a, Context: Drop> BorrowDecode<&'a [u8], Context> for Event<'a> {
+impl<Context: Drop> Decode<Context> for Event {
     type Run = Sequential;
 
-    fn borrow_decode<D: BorrowDecoder<&'a [u8], Context = Context>>(
+    fn decode<D: Decoder<Context = Context>>(decoder: &mut D) -> Result<Event, DecodeError> {
+        decode_by_tag(decoder)
+    }
+}
+
+impl<B: BorrowedBytes, Context: Drop> BorrowDecode<B, Context> for Event {
+    type Run = Sequential;
+
+    fn borrow_decode<D: BorrowDecoder<B, Context = Context>>(
         decoder: &mut D,
-    ) -> Result<Event<'a>, DecodeError> {
-        borrow_decode_by_tag(decoder)
+    ) -> Result<Event, DecodeError> {
+        Event::decode(decoder)
     }
 }

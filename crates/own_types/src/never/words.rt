@@ -3,7 +3,10 @@
 //! Left out of Never: Exact.
 
 use super::*;
-use bincode::de::{Decode, Decoder, Named, Sequential, decode_no_variants};
+use bincode::de::{
+    BorrowDecode, BorrowDecoder, BorrowedBytes, Decode, Decoder, Named, Sequential,
+    decode_no_variants,
+};
 use bincode::error::DecodeError;
 use bincode::laws::{Canonical, Plain, canonical_by_parts, plain_by_parts};
 use bincode::short_text::TypeName;
@@ -48,5 +51,15 @@ impl<Context: Drop> Decode<Context> for Never {
 
     fn decode<D: Decoder<Context = Context>>(decoder: &mut D) -> Result<Never, DecodeError> {
         decode_no_variants::<Never, Never, D>(decoder)
+    }
+}
+
+impl<B: BorrowedBytes, Context: Drop> BorrowDecode<B, Context> for Never {
+    type Run = Sequential;
+
+    fn borrow_decode<D: BorrowDecoder<B, Context = Context>>(
+        decoder: &mut D,
+    ) -> Result<Never, DecodeError> {
+        Never::decode(decoder)
     }
 }

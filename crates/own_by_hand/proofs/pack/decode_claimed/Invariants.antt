@@ -1,7 +1,7 @@
 use Rattle.std.proofs.Common.{◌≡◌, ◌≤◌}
 use Rattle.std.specs.Vec.{vec_len, vec_capacity}
 use Rattle.bincode_collections.proofs.Reading.{RunSoFar}
-use Rattle.proved_callers.proofs.looped.decode_claimed.Given as goal
+use Rattle.own_by_hand.proofs.pack.decode_claimed.Given as goal
 
 abbrev pub invariant-loop : goal.invariant-loop
 invariant-loop g l =

@@ -3,8 +3,8 @@ use Rattle.std.proofs.lemmas.Result.{err_from_is_err_and}
 use Rattle.bincode_spec.specs.Decoding.{by_memory}
 use Rattle.bincode_decoder.proofs.Rooms.{held-still}
 use Rattle.bincode_collections.proofs.Reading.{none-so_far, next-releases, next-so_far, stops-so_far, all-so_far}
-use Rattle.proved_callers.proofs.LengthReads.{item-read}
-use Rattle.proved_callers.proofs.looped.decode_claimed.Goals as goal
+use Rattle.own_by_hand.proofs.LengthReads.{item-read}
+use Rattle.own_by_hand.proofs.pack.decode_claimed.Goals as goal
 
 pub loop-init : goal.loop-init
 loop-init g c = (rw c.in-Ok.ensures.items (none-so_far c.requires), c.in-Ok.ensures.len, c.in-Ok.ensures.capacity)

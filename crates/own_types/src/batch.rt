@@ -1,4 +1,4 @@
-//! A list in a vector.
+//! A list in a vector, which is filled item by item.
 ghost use Rattle.std.specs.Prelude.{◌≡◌};
 
 use bincode::de::{Decode, Decoder, FillList, Sequential, decode_collection};
@@ -10,43 +10,43 @@ use std::alloc::Global;
 
 /// A list of items.
 #[derive(Drop, PartialEq)]
-pub struct Pack<T> {
+pub struct Batch<T> {
     pub items: Vec<T>,
 }
 
-impl<T: Wire> HasParts<Items<T, 24>> for Pack<T> {
+impl<T: Wire> HasParts<Items<T, 24>> for Batch<T> {
     ghost parts = { λ v. record { items = v.items.items } };
 }
 
-impl<T: Wire> Wire for Pack<T> {
+impl<T: Wire> Wire for Batch<T> {
     ghost use Rattle.bincode.specs.TypeWords.{words_by};
 
-    ghost words = { words_by ⟦<Items<T, 24> as Wire>⟧.words ⟦<Pack<T> as HasParts<Items<T, 24>>>⟧.parts };
+    ghost words = { words_by ⟦<Items<T, 24> as Wire>⟧.words ⟦<Batch<T> as HasParts<Items<T, 24>>>⟧.parts };
 
     fn claim_size() -> usize {
         24
     }
 }
 
-impl<T: Plain> Plain for Pack<T> {
+impl<T: Plain> Plain for Batch<T> {
     fn tell_plain() {
-        plain_by_parts::<Items<T, 24>, Pack<T>>();
+        plain_by_parts::<Items<T, 24>, Batch<T>>();
     }
 }
 
-impl<T: Exact> Exact for Pack<T> {
+impl<T: Exact> Exact for Batch<T> {
     fn tell_exact() {
-        exact_by_parts::<Items<T, 24>, Pack<T>>();
+        exact_by_parts::<Items<T, 24>, Batch<T>>();
     }
 }
 
-impl<T: Canonical> Canonical for Pack<T> {
+impl<T: Canonical> Canonical for Batch<T> {
     fn tell_canonical() {
-        canonical_by_parts::<Items<T, 24>, Pack<T>>();
+        canonical_by_parts::<Items<T, 24>, Batch<T>>();
     }
 }
 
-impl<T: Encode> Encode for Pack<T> {
+impl<T: Encode> Encode for Batch<T> {
     fn tell_valid(&self) {
         self.items.tell_valid();
     }
@@ -56,7 +56,7 @@ impl<T: Encode> Encode for Pack<T> {
     }
 }
 
-impl<Context: Drop, T: Wire + Drop> FillList<Context> for Pack<T> {
+impl<Context: Drop, T: Wire + Drop> FillList<Context> for Batch<T> {
     type Item = T;
 
     type Filling = Vec<T>;
@@ -79,15 +79,15 @@ impl<Context: Drop, T: Wire + Drop> FillList<Context> for Pack<T> {
         }
     }
 
-    fn finish(items: Vec<T>) -> Result<Pack<T>, DecodeError> {
-        Ok(Pack { items })
+    fn finish(items: Vec<T>) -> Result<Batch<T>, DecodeError> {
+        Ok(Batch { items })
     }
 }
 
-impl<Context: Drop, T: Decode<Context>> Decode<Context> for Pack<T> {
+impl<Context: Drop, T: Decode<Context>> Decode<Context> for Batch<T> {
     type Run = Sequential;
 
-    fn decode<D: Decoder<Context = Context>>(decoder: &mut D) -> Result<Pack<T>, DecodeError> {
+    fn decode<D: Decoder<Context = Context>>(decoder: &mut D) -> Result<Batch<T>, DecodeError> {
         decode_collection(decoder)
     }
 }

@@ -2,8 +2,8 @@ use Rattle.std.proofs.lemmas.Result.{err_from_is_err_and}
 use Rattle.bincode_lemmas.specs.RunLaws.{array-passed}
 use Rattle.bincode_decoder.proofs.ReadAnswers.{claim-passed}
 use Rattle.bincode_collections.proofs.Containers.{array-reads, length-stops, length-reads}
-use Rattle.proved_callers.proofs.LengthReads.{length-read}
-use Rattle.proved_callers.proofs.looped.LoopedDecode.decode.Goals as goal
+use Rattle.own_by_hand.proofs.LengthReads.{length-read}
+use Rattle.own_by_hand.proofs.pack.PackDecode.decode.Goals as goal
 
 pub returns-in_err-len : goal.returns-in_err-len
 returns-in_err-len g c =
