@@ -91,9 +91,6 @@ fn stream<T: Decode<()> + Encode, C: Config>(PARAMETERS, config: C) -> usize {
 }
 """
 
-# encode_into_buf_write, to the same; the original's is encode_into_std_write
-BUF_WRITE = STREAM.replace("fn stream", "fn buf_write").replace("encode_into_std_write", "encode_into_buf_write")
-
 # encode_into_writer to a BlockWriter that is kept, before the room; the original's is a buffer as above
 BLOCK = """
 fn block<T: Decode<()> + Encode, C: Config>(PARAMETERS, config: C) -> usize {
@@ -194,7 +191,6 @@ LOOPS = {
     "read": READ,
     "borrow": BORROW,
     "stream": STREAM,
-    "buf_write": BUF_WRITE,
     "block": BLOCK,
     "std_read": STD_READ,
     "buf_read": BUF_READ,
@@ -206,7 +202,7 @@ LIBRARIES = {
     "bench_write": ("write",),
     "bench_vector": ("vector",),
     "bench_read": ("read",),
-    "bench_others": ("borrow", "stream", "buf_write", "block", "std_read", "buf_read", "reader"),
+    "bench_others": ("borrow", "stream", "block", "std_read", "buf_read", "reader"),
 }
 
 HELPERS = """
@@ -301,14 +297,14 @@ def rows():
         ("plain", PLAIN, ("write", "read")),
         ("held", HELD, ("write", "read", "vector")),
         ("lent", LENT, ("borrow",)),
-        ("streamed", STREAMED, ("stream", "buf_write", "block", "std_read", "buf_read", "reader")),
-        ("single", SINGLE, ("write", "read", "stream", "buf_write", "block", "std_read", "buf_read", "reader")),
+        ("streamed", STREAMED, ("stream", "block", "std_read", "buf_read", "reader")),
+        ("single", SINGLE, ("write", "read", "stream", "block", "std_read", "buf_read", "reader")),
     )
     for group, types, ways in groups:
         for way in ways:
             for configuration in CONFIGURATIONS:
                 # a limit is kept by what reads alone
-                if configuration == "vl" and way in ("write", "vector", "stream", "buf_write", "block"):
+                if configuration == "vl" and way in ("write", "vector", "stream", "block"):
                     continue
                 for shape, of in types.items():
                     if configuration == "f" and shape in SAME_WHEN_FIXED:
@@ -350,8 +346,7 @@ def rattle_of(built):
 
 use bincode::config::Config;
 use bincode::{{BorrowDecode, Decode, Encode, borrow_decode_from_slice, config, decode_from_reader, decode_from_slice}};
-use bincode::{{decode_from_buf_read, decode_from_std_read, encode_into_buf_write, encode_into_slice, encode_into_std_write}};
-use bincode::{{encode_into_writer, encode_to_vec}};
+use bincode::{{decode_from_buf_read, decode_from_std_read, encode_into_slice, encode_into_std_write, encode_into_writer, encode_to_vec}};
 {blocks}use std::alloc::Global;
 use std::collections::{{BTreeMap, HashMap}};
 use std::io;

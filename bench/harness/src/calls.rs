@@ -4,8 +4,6 @@ pub use bincode::config::Config;
 use bincode::error::{DecodeError, EncodeError};
 pub use bincode::{BorrowDecode, Decode, Encode};
 pub use bincode::{encode_into_slice, encode_into_std_write};
-// The original has no call of its own that writes in blocks.
-pub use bincode::encode_into_std_write as encode_into_buf_write;
 use std::io;
 use std::io::{BufReader, BufWriter, Read, Write};
 
