@@ -1,9 +1,12 @@
 //! Compact binary encoding and decoding, in the format of bincode 2.
 //!
+//! From `crates/hello/src/main.rt`, where `rt` is what `main` is given:
 //! ```
-//! let mut bytes = [0u8; 8];
-//! let written = encode_into_slice((7u8, 300u32), &mut bytes, config::standard())?;
-//! let (value, taken): ((u8, u32), usize) = decode_from_slice(alloc, &bytes[..written], config::standard())?;
+//! let config = config::standard().with_limit::<4096>();
+//!
+//! let bytes = encode_to_vec(rt.alloc(), (300u32, "tea"), config)?;
+//! // ..
+//! let (record, taken): ((u32, String), usize) = decode_from_slice(rt.alloc(), &bytes, config)?;
 //! ```
 #![tactic(auto)]
 

@@ -47,8 +47,10 @@ pub fn encode_into_slice<E: Encode, C: Config>(
 }
 
 /// Decodes a value from the front of a slice and returns it with the number of bytes of its encoding. The bytes after
-/// them do not change the result. Fails with the first fault of the bytes (docs/FORMAT.md lists them), `LimitExceeded`
-/// if the charges pass the limit, or `Memory` if an allocation is refused.
+/// them do not change what is decoded. Fails with the first fault of the bytes (docs/FORMAT.md lists them; where the
+/// slice ends too early it is `UnexpectedEnd`), `LimitExceeded` if the charges pass the limit, of which
+/// `config::standard()` has none, or `Memory` if an allocation is refused. The contract allows `Memory` for every input
+/// of a type that may allocate, since none can say when an allocation is refused.
 pub fn decode_from_slice<D: Decode<()>, C: Config>(
     alloc: Global,
     src: &[u8],

@@ -2,7 +2,7 @@
 
 use crate::settings::Saved;
 use anyhow::Result;
-use bincode::{config, decode_from_std_read, encode_into_std_write};
+use bincode::{config, decode_from_buf_read, encode_into_std_write};
 use std::fs::File;
 use std::io::{BufReader, BufWriter, Write};
 
@@ -17,5 +17,5 @@ pub fn save(rt: &HostRuntime, path: &str, saved: &Saved) -> Result<()> {
 pub fn load(rt: &HostRuntime, path: &str) -> Result<Saved> {
     let mut input = BufReader::new(rt.alloc(), File::open(rt, path)?)?;
     let config = config::standard().with_limit::<65536>();
-    Ok(decode_from_std_read(rt.alloc(), &mut input, config)?)
+    Ok(decode_from_buf_read(rt.alloc(), &mut input, config)?)
 }

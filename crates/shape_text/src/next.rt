@@ -32,9 +32,10 @@ pub enum NextError {
 
 /// Looks for the encoding of a shape that a stream goes on with, and returns its length in bytes and how many values it
 /// has; `None` if no byte is left. Reads until the window shows the whole encoding, and consumes nothing: its bytes are
-/// the first that the window shows, and `Window::skip` goes on after them. From 16 KiB on at least twice as many bytes
-/// are shown at each try, so that the time is linear in the length of a long encoding. Fails with `NoWord` if the bytes
-/// that are left begin with no encoding within the limit, or with `Read` if the stream fails.
+/// the first that the window shows, and `Window::skip` goes on after them. From 16 KiB on it tries again once at least
+/// twice as many bytes are shown, so that a long encoding is measured few times; no contract speaks of the time. Fails
+/// with `NoWord` if the bytes that are left begin with no encoding within the limit, or with `Read` if the stream
+/// fails.
 pub fn next_word<R: Read, C: Config>(
     alloc: Global,
     shape: &Shape,
