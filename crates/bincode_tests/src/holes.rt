@@ -3,17 +3,13 @@
 //! before they are made. Expected values come from docs/FORMAT.md and from what the calls promise in words.
 
 use crate::pieces::word_of;
-use bincode::alloc::encode_to_vec;
 use bincode::checked::{encoded_length, round_trip_by_vec};
-use bincode::enc::Encoder;
 use bincode::enc::write::{VecWriter, Writer};
-use bincode::error::{DecodeError, EncodeError};
-use bincode::impls::Encode;
+use bincode::error::DecodeError;
 use bincode::shape::{DecodeWithinError, Described, Shape, decode_shaped_within};
 use bincode::std_io::decode_from_buf_read;
-use bincode::{Wire, config, encode_into_slice};
+use bincode::{config, encode_into_slice};
 use std::alloc::Global;
-use std::cell::Cell;
 use std::io;
 use std::io::{BufRead, ErrorKind, Read};
 use std::time::{Duration, Instant};
@@ -86,62 +82,6 @@ fn reads_on_after_an_interruption(rt: HostRuntime) {
             assert!(rt; is_read_whole(alloc, shown, every), "{shown} {every}");
         }
     }
-}
-
-/// A text of a hundred letters.
-const LONG: &str =
-    "0123456789012345678901234567890123456789012345678901234567890123456789012345678901234567890123456789";
-
-/// A value without bytes that puts the long text into a cell when it is written again.
-#[derive(Clone, Copy)]
-struct Turning<'a> {
-    cell: &'a Cell<&'static str>,
-    passes: &'a Cell<usize>,
-}
-
-impl Wire for Turning<'_> {
-    ghost use Rattle.bincode.specs.TypeWords.{words_by};
-
-    // Those of no bytes.
-    ghost words = { words_by ⟦<() as Wire>⟧.words (λ _. tt) };
-
-    fn claim_size() -> usize {
-        <()>::claim_size()
-    }
-}
-
-impl Encode for Turning<'_> {
-    fn tell_valid(&self) {
-        ().tell_valid();
-    }
-
-    fn encode<E: Encoder>(&self, encoder: &mut E) -> Result<(), EncodeError> {
-        self.passes.set(self.passes.get().saturating_add(1));
-        if self.passes.get() > 1 {
-            self.cell.set(LONG);
-        }
-        ().encode(encoder)
-    }
-}
-
-/// The length and the capacity of the encoding of a text that was counted as empty, and how often it was written.
-fn room_of_turned(alloc: Global) -> Option<(usize, usize, usize)> {
-    let cell = Cell::new("");
-    let passes = Cell::new(0);
-    let turning = Turning {
-        cell: &cell,
-        passes: &passes,
-    };
-    let bytes = encode_to_vec(alloc, (turning, &cell), config::standard()).ok()?;
-    Some((bytes.len(), bytes.capacity(), passes.get()))
-}
-
-/// A hundred and one bytes where one was counted: it is written once to count, and then into rooms of 1, 3, 7, 15, 31,
-/// 63 and 127 bytes.
-#[test]
-fn doubles_the_room_of_a_value_that_grew(rt: HostRuntime) {
-    let room = room_of_turned(rt.alloc()).or_else(|| room_of_turned(rt.alloc()));
-    assert!(rt; room == Some((101, 127, 8)));
 }
 
 /// How many bytes are written one by one to a vector without room, and its capacity then: eight at first, and then
