@@ -1,4 +1,4 @@
-//! What a test asserts of several answers.
+//! What a test asserts of several answers, or of a table of rows with their labels.
 
 use std::process::Abort;
 use test_helpers::rows::first_false;
@@ -6,4 +6,11 @@ use test_helpers::rows::first_false;
 /// Each answer is true; else the place of the first that is not is told, from 0 on.
 pub fn all_true(rt: &impl Abort, answers: &[bool]) {
     assert_eq!(rt; first_false(answers), None);
+}
+
+/// Each row holds; else the label of the first that does not is told.
+pub fn rows_hold(rt: &impl Abort, rows: &[(&'static str, bool)]) {
+    for (label, holds) in rows {
+        assert!(rt; *holds, "{label}");
+    }
 }

@@ -1,7 +1,8 @@
 //! Borrowed decoding: what is lent of the source, and a type of each kind.
 
-use crate::asserts::all_true;
-use bincode::config;
+use crate::asserts::{all_true, rows_hold};
+use bincode::borrow_decode_from_slice;
+use bincode::config::{self, Config};
 use bincode::de::read::SliceReader;
 use bincode::de::{
     BorrowDecode, BorrowDecoder, ClaimContainer, DecoderImpl, LendInContext, borrow_decode_array,
@@ -21,7 +22,7 @@ use std::num::NonZeroU16;
 use std::ops::{Bound, RangeInclusive};
 use std::rc::{Rc, RcSlice};
 use std::sync::Arc;
-use test_helpers::checks::{borrowed, either, fills};
+use test_helpers::checks::{borrowed, either, fills, is_passed};
 
 /// The word of ten thousand texts of three bytes.
 fn many_texts(alloc: Global) -> Result<Vec<u8>, AllocError> {
@@ -46,14 +47,81 @@ fn lends_ten_thousand_texts(rt: HostRuntime) {
     assert!(rt; texts.len() == 10_000);
 }
 
-/// No contract says that what may be owned is not.
-#[test]
-fn lends_what_may_be_owned(rt: HostRuntime) {
+/// The result of borrowed decoding under a configuration. Retries once if an allocation is refused.
+fn lent<'a, T: BorrowDecode<&'a [u8], ()>, C: Config>(
+    alloc: Global,
+    source: &'a [u8],
+    config: C,
+) -> Result<(T, usize), DecodeError> {
+    match borrow_decode_from_slice(alloc, source, config) {
+        Err(DecodeError::Memory) => borrow_decode_from_slice(alloc, source, config),
+        outcome => outcome,
+    }
+}
+
+/// The encoding of the list of abc, def and ghi.
+static TEXTS: [u8; 13] = [3, 3, 97, 98, 99, 3, 100, 101, 102, 3, 103, 104, 105];
+
+/// Whether the texts are lent within 56, and not within 55.
+fn lends_texts_within(alloc: Global) -> bool {
+    let less = config::standard().with_limit::<55>();
+    let enough = config::standard().with_limit::<56>();
+    let Ok((texts, 13)) = lent::<Vec<&str>, _>(alloc, &TEXTS, enough) else {
+        return false;
+    };
+    texts.as_slice() == ["abc", "def", "ghi"].as_slice()
+        && is_passed(lent::<Vec<&str>, _>(alloc, &TEXTS, less))
+}
+
+/// Whether three bytes are lent within 11, and not within 10.
+fn lends_bytes_within(alloc: Global) -> bool {
+    let less = config::standard().with_limit::<10>();
+    let enough = config::standard().with_limit::<11>();
+    let source = [3, 1, 2, 3];
+    matches!(lent::<&[u8], _>(alloc, &source, enough), Ok(([1, 2, 3], 4)))
+        && is_passed(lent::<&[u8], _>(alloc, &source, less))
+}
+
+/// Whether a text and bytes are lent, each as what may be owned. No contract says that they are not owned.
+fn lends_what_may_be_owned(alloc: Global) -> bool {
     let source = [3, 70, 111, 111];
-    let text = borrowed::<CowStr<'_>>(rt.alloc(), &source);
-    assert!(rt; matches!(text, Ok((CowStr::Borrowed("Foo"), 4))));
-    let bytes = borrowed::<CowSlice<'_, u8>>(rt.alloc(), &source);
-    assert!(rt; matches!(bytes, Ok((CowSlice::Borrowed([70, 111, 111]), 4))));
+    let text = borrowed::<CowStr<'_>>(alloc, &source);
+    let bytes = borrowed::<CowSlice<'_, u8>>(alloc, &source);
+    matches!(text, Ok((CowStr::Borrowed("Foo"), 4)))
+        && matches!(bytes, Ok((CowSlice::Borrowed([70, 111, 111]), 4)))
+}
+
+/// Whether a text is lent in an option of fixed numbers.
+fn lends_under_fixed_numbers(alloc: Global) -> bool {
+    let source = [1, 1, 0, 0, 0, 0, 0, 0, 0, 65];
+    let read = lent::<Option<&str>, _>(alloc, &source, config::legacy());
+    matches!(read, Ok((Some("A"), 10)))
+}
+
+/// Whether a text that is cut is told from one that is no UTF-8.
+fn tells_faults_of_texts(alloc: Global) -> bool {
+    matches!(
+        borrowed::<&str>(alloc, &[2, 195]),
+        Err(DecodeError::UnexpectedEnd { additional: 1 })
+    ) && matches!(
+        borrowed::<&str>(alloc, &[2, 195, 40]),
+        Err(DecodeError::Utf8 { inner: _ })
+    )
+}
+
+#[test]
+fn lends_texts_and_bytes(rt: HostRuntime) {
+    let alloc = rt.alloc();
+    rows_hold(
+        &rt,
+        &[
+            ("lent texts, limits 55 and 56", lends_texts_within(alloc)),
+            ("a text that borrows", lends_what_may_be_owned(alloc)),
+            ("lent bytes, limits 10 and 11", lends_bytes_within(alloc)),
+            ("an option of a lent text", lends_under_fixed_numbers(alloc)),
+            ("lent texts that are none", tells_faults_of_texts(alloc)),
+        ],
+    );
 }
 
 /// Whether a text is lent by a reference to the decoder's own.

@@ -4,19 +4,20 @@ use bincode::ffi::{CStr, CString, NulError};
 use std::alloc::Global;
 use test_helpers::checks::{borrowed, either, is_written_as, read_word};
 
-/// The word of Hello.
-static WORD: [u8; 6] = [5, 72, 101, 108, 108, 111];
+/// The encoding of Hello world.
+static WORD: [u8; 12] = [11, 72, 101, 108, 108, 111, 32, 119, 111, 114, 108, 100];
 
+/// Row: a C string of twelve bytes.
 #[test]
 fn keeps_a_c_string(rt: HostRuntime) {
     let alloc = rt.alloc();
-    let lent = CStr::from_bytes(b"Hello").ok();
+    let lent = CStr::from_bytes(b"Hello world").ok();
     assert!(rt; is_written_as(alloc, lent, &WORD) && CStr::from_bytes(&[72, 0, 101]) == Err(1));
     let Some(text) = read_word::<CString>(alloc, &WORD) else {
         assert!(rt; false);
         return;
     };
-    assert!(rt; text.as_bytes() == b"Hello".as_slice() && Some(text.as_c_str()) == lent);
+    assert!(rt; text.as_bytes() == b"Hello world".as_slice() && Some(text.as_c_str()) == lent);
     let Some(copy) = either(text.clone(), text.clone()) else {
         assert!(rt; false);
         return;
@@ -27,11 +28,11 @@ fn keeps_a_c_string(rt: HostRuntime) {
 #[test]
 fn is_owned_by_borrowed_decoding(rt: HostRuntime) {
     let alloc = rt.alloc();
-    let Ok((text, 6)) = borrowed::<CString>(alloc, &WORD) else {
+    let Ok((text, 12)) = borrowed::<CString>(alloc, &WORD) else {
         assert!(rt; false);
         return;
     };
-    assert!(rt; text.into_bytes().as_slice() == b"Hello".as_slice());
+    assert!(rt; text.into_bytes().as_slice() == b"Hello world".as_slice());
 }
 
 /// What is refused of bytes with a zero, if memory was there for them.
@@ -40,13 +41,12 @@ fn refused(alloc: Global, bytes: &[u8]) -> Option<NulError> {
     CString::new(bytes).err()
 }
 
+/// Row: a C string with a zero.
 #[test]
 fn tells_the_first_zero_of_a_vector(rt: HostRuntime) {
-    let Some(fault) = refused(rt.alloc(), &[65, 0, 66, 0]) else {
+    let Some(fault) = refused(rt.alloc(), &[65, 0, 66]) else {
         assert!(rt; false);
         return;
     };
-    assert!(rt;
-        fault.nul_position() == 1 && fault.into_vec().as_slice() == [65, 0, 66, 0].as_slice()
-    );
+    assert!(rt; fault.nul_position() == 1 && fault.into_vec().as_slice() == [65, 0, 66].as_slice());
 }

@@ -1,5 +1,6 @@
 //! Encoders and decoders over a writer and a reader of one's own.
 
+use crate::asserts::rows_hold;
 use bincode::config;
 use bincode::de::read::SliceReader;
 use bincode::de::{
@@ -9,6 +10,7 @@ use bincode::enc::write::SliceWriter;
 use bincode::enc::{Encode, Encoder, EncoderImpl, encode_run};
 use bincode::error::DecodeError;
 use std::alloc::Global;
+use test_helpers::checks::is_passed;
 
 /// Whether a number is written by a reference to the encoder's own.
 fn writes_by_reference<E: Encoder>(mut encoder: &mut E) -> bool {
@@ -88,4 +90,48 @@ fn reads_within_ten(alloc: Global) -> bool {
 #[test]
 fn decodes_runs(rt: HostRuntime) {
     assert!(rt; reads_within_ten(rt.alloc()) || reads_within_ten(rt.alloc()));
+}
+
+/// Whether six of ten are claimed, and of the four that are left not five, but two once three are released; then nothing
+/// more that passes what a counter holds, and the charge stays.
+fn claims_in_turn<D: Decoder<Context = ()>>(decoder: &mut D) -> bool {
+    if decoder.claim_bytes_read(6).is_err() || !is_passed(decoder.claim_bytes_read(5)) {
+        return false;
+    }
+    decoder.unclaim_bytes_read(3);
+    decoder.claim_bytes_read(2).is_ok()
+        && is_passed(decoder.claim_bytes_read(usize::MAX))
+        && decoder.claim_bytes_read(0).is_ok()
+}
+
+/// Whether a claim of 2^64 bytes is refused, and the charge stays.
+fn refuses_room<D: Decoder<Context = ()>>(decoder: &mut D) -> bool {
+    is_passed(decoder.claim_container_read::<u32>(1 << 62)) && decoder.claim_bytes_read(0).is_ok()
+}
+
+/// Whether it is granted.
+fn grants_room<D: Decoder<Context = ()>>(decoder: &mut D) -> bool {
+    decoder.claim_container_read::<u32>(1 << 62).is_ok()
+}
+
+#[test]
+fn claims_and_releases(rt: HostRuntime) {
+    let alloc = rt.alloc();
+    let ten = config::standard().with_limit::<10>();
+    let mut limited = DecoderImpl::new(alloc, SliceReader::new(&[]), ten, ());
+    let mut free = DecoderImpl::new(alloc, SliceReader::new(&[]), config::standard(), ());
+    rows_hold(
+        &rt,
+        &[
+            ("claims in turn", claims_in_turn(&mut limited)),
+            (
+                "a container's claim that overflows",
+                refuses_room(&mut limited),
+            ),
+            (
+                "a container's claim without a limit",
+                grants_room(&mut free),
+            ),
+        ],
+    );
 }

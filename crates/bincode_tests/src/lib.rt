@@ -30,6 +30,8 @@ mod configurations;
 #[cfg(test)]
 mod contexts;
 #[cfg(test)]
+mod encodings;
+#[cfg(test)]
 mod faults;
 #[cfg(test)]
 mod files;
@@ -57,6 +59,8 @@ mod pieces;
 mod public;
 #[cfg(test)]
 mod readers;
+#[cfg(test)]
+mod streams;
 #[cfg(test)]
 mod varints;
 #[cfg(test)]

@@ -1,17 +1,18 @@
 //! Numbers, truth values and characters: types that no worked row writes and reads, of the `NonZero` ones some; fixed
 //! numbers whose first byte would be a tag; and numbers that a buffer shows together.
 
-use crate::asserts::all_true;
+use crate::asserts::{all_true, rows_hold};
+use crate::encodings::is_encoded;
 use bincode::config::{self, Config};
 use bincode::de::Decode;
 use bincode::de::read::Reader;
 use bincode::enc::Encode;
 use bincode::error::DecodeError;
-use bincode::{decode_from_reader, decode_from_slice, encode_into_slice};
+use bincode::{decode_from_reader, decode_from_slice};
 use std::alloc::Global;
 use std::io::BufReader;
 use std::num::{NonZeroI8, NonZeroI32, NonZeroI128, NonZeroU64, NonZeroUsize};
-use test_helpers::checks::{either, fault_of, keeps};
+use test_helpers::checks::{decoded, either, fault_of, keeps};
 
 #[test]
 fn keeps_numbers(rt: HostRuntime) {
@@ -21,9 +22,7 @@ fn keeps_numbers(rt: HostRuntime) {
         &[
             keeps::<usize>(alloc, &[251, 251, 0]),
             keeps::<isize>(alloc, &[3]),
-            keeps::<i64>(alloc, &[253, 0, 188, 160, 101, 1, 0, 0, 0]),
             keeps::<bool>(alloc, &[1]),
-            keeps::<i32>(alloc, &[252, 128, 56, 1, 0]),
             keeps::<NonZeroU64>(alloc, &[251, 57, 48]),
             keeps::<NonZeroUsize>(alloc, &[251, 251, 0]),
             keeps::<NonZeroI8>(alloc, &[123]),
@@ -33,27 +32,99 @@ fn keeps_numbers(rt: HostRuntime) {
     );
 }
 
-/// Whether a slice gets this word of the number.
-fn writes_number<T: Encode, C: Config>(config: C, number: &T, word: &[u8]) -> bool {
-    let mut slice = [99u8; 8];
-    let written = encode_into_slice(number, &mut slice, config);
-    matches!(written, Ok(count) if slice.get(..count) == Some(word))
-}
+/// 10 in the last of eight and of sixteen bytes, after the tag of so many.
+static EIGHT: [u8; 9] = [253, 0, 0, 0, 0, 0, 0, 0, 10];
 
-/// Whether a word is read as a number, and the number written as the word.
-fn keeps_number<T: Encode + Decode<()> + PartialEq, C: Config>(
+static SIXTEEN: [u8; 17] = [254, 0, 0, 0, 0, 0, 0, 0, 0, 0, 0, 0, 0, 0, 0, 0, 10];
+
+/// What it is where the lowest byte comes first.
+const TEN_AT_56: u64 = 720_575_940_379_279_360;
+
+const TEN_AT_120: u128 = 13_292_279_957_849_158_729_038_070_602_803_445_760;
+
+/// Whether all of these bytes are decoded as this number.
+fn reads_number<T: Decode<()> + PartialEq, C: Config>(
     alloc: Global,
     config: C,
-    number: &T,
-    word: &[u8],
+    input: &[u8],
+    number: T,
 ) -> bool {
-    let read: Result<(T, usize), DecodeError> = decode_from_slice(alloc, word, config);
-    match read {
-        Ok((value, taken)) => {
-            taken == word.len() && value == *number && writes_number(config, number, word)
-        }
-        Err(_) => false,
+    let read: Result<(T, usize), DecodeError> = decode_from_slice(alloc, input, config);
+    matches!(read, Ok((value, taken)) if value == number && taken == input.len())
+}
+
+/// Whether so many bytes of a `u16` are missing.
+fn misses(alloc: Global, input: &[u8], missing: usize) -> bool {
+    matches!(
+        fault_of::<u16>(alloc, input),
+        Some(DecodeError::UnexpectedEnd { additional }) if additional == missing
+    )
+}
+
+/// Whether four bytes are decoded after a fixed length.
+fn reads_four_bytes(alloc: Global) -> bool {
+    let input = [4, 0, 0, 0, 0, 0, 0, 0, 1, 2, 3, 4];
+    match decoded::<Vec<u8>, _>(alloc, &input, config::legacy()) {
+        Ok((bytes, 12)) => bytes.as_slice() == [1, 2, 3, 4].as_slice(),
+        _ => false,
     }
+}
+
+#[test]
+fn writes_signed_numbers(rt: HostRuntime) {
+    let little = config::standard();
+    let three = [253, 0, 188, 160, 101, 1, 0, 0, 0];
+    rows_hold(
+        &rt,
+        &[
+            (
+                "forty thousand",
+                is_encoded(&40_000i32, &[252, 128, 56, 1, 0], little)
+                    && is_encoded(&40_000i32, &[252, 0, 1, 56, 128], little.with_big_endian()),
+            ),
+            (
+                "three billion",
+                is_encoded(&3_000_000_000i64, &three, little),
+            ),
+            (
+                "the greatest i16",
+                is_encoded(&i16::MAX, &[251, 254, 255], little),
+            ),
+        ],
+    );
+}
+
+#[test]
+fn reads_unsigned_numbers(rt: HostRuntime) {
+    let alloc = rt.alloc();
+    let little = config::standard();
+    rows_hold(
+        &rt,
+        &[
+            (
+                "ten in eight bytes",
+                reads_number(alloc, little, &EIGHT, TEN_AT_56)
+                    && reads_number(alloc, little.with_big_endian(), &EIGHT, 10u64),
+            ),
+            (
+                "ten in sixteen bytes",
+                reads_number(alloc, little, &SIXTEEN, TEN_AT_120),
+            ),
+            ("a tag alone", misses(alloc, &[251], 2)),
+            ("a tag and one byte", misses(alloc, &[251, 0], 1)),
+            ("four bytes, legacy", reads_four_bytes(alloc)),
+        ],
+    );
+}
+
+/// Whether these bytes are decoded as a number, and the number encoded as them.
+fn keeps_number<T: Encode + Decode<()> + PartialEq + Copy, C: Config>(
+    alloc: Global,
+    config: C,
+    number: T,
+    encoding: &[u8],
+) -> bool {
+    reads_number(alloc, config, encoding, number) && is_encoded(&number, encoding, config)
 }
 
 #[test]
@@ -63,10 +134,10 @@ fn keeps_fixed_numbers_that_begin_above_250(rt: HostRuntime) {
     let big = config::legacy().with_big_endian();
     let eight = [253, 7, 6, 5, 4, 3, 2, 1];
     assert!(rt;
-        keeps_number(alloc, little, &0x0102_03FBu32, &[251, 3, 2, 1])
-            && keeps_number(alloc, big, &0xFC03_0201u32, &[252, 3, 2, 1])
-            && keeps_number(alloc, little, &0x0102_0304_0506_07FDu64, &eight)
-            && keeps_number(alloc, big, &0xFD07_0605_0403_0201u64, &eight)
+        keeps_number(alloc, little, 0x0102_03FBu32, &[251, 3, 2, 1])
+            && keeps_number(alloc, big, 0xFC03_0201u32, &[252, 3, 2, 1])
+            && keeps_number(alloc, little, 0x0102_0304_0506_07FDu64, &eight)
+            && keeps_number(alloc, big, 0xFD07_0605_0403_0201u64, &eight)
     );
 }
 

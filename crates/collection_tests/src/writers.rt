@@ -25,6 +25,7 @@ fn answers_the_error_of_a_cut_line(rt: HostRuntime) {
 /// A pair whose parts are written in one byte and in three.
 const PAIR: (u8, u32) = (1, 300);
 
+/// Rows: a writer of four bytes, and a writer of three bytes.
 #[test]
 fn writes_into_a_fixed_room(rt: HostRuntime) {
     let mut enough: Fixed<4> = Fixed::new();
