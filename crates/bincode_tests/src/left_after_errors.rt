@@ -3,10 +3,9 @@
 
 use crate::asserts::{all_true, rows_hold};
 use crate::encodings::is_encoded;
-use crate::pieces::write_in_pieces;
-use bincode::enc::Encode;
+use bincode::enc::{Encode, IoWriter};
 use bincode::error::EncodeError;
-use bincode::{config, encode_into_slice};
+use bincode::{config, encode_into_slice, encode_into_writer};
 use std::alloc::{AllocError, Global};
 use std::collections::{BinaryHeap, VecDeque};
 use std::io;
@@ -40,7 +39,9 @@ fn left_and_calls<T: Encode, const N: usize>(value: &T) -> Option<([u8; N], usiz
         return None;
     };
     let mut stream = Counting { calls: 0 };
-    write_in_pieces(value, &mut stream).ok()?;
+    let mut writer = IoWriter::new(&mut stream);
+    encode_into_writer(value, &mut writer, config::standard()).ok()?;
+    drop(writer);
     Some((slice, stream.calls))
 }
 

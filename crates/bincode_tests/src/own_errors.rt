@@ -7,7 +7,8 @@ use bincode::enc::{Encode, Encoder};
 use bincode::error::EncodeError;
 use bincode::short_text::ShortText;
 use bincode::{
-    Wire, config, encode_into_slice, encode_into_std_write, encode_into_writer, encode_to_vec,
+    Wire, config, encode_into_buf_write, encode_into_slice, encode_into_std_write,
+    encode_into_writer, encode_to_vec,
 };
 use std::alloc::Global;
 use test_helpers::checks::either;
@@ -124,11 +125,20 @@ fn leaves_stream<T: Encode>(value: &T, cause: Cause) -> bool {
     fails_by(outcome, cause) && target == [1, 2, 9, 9]
 }
 
+/// Whether the call for streams that writes in blocks does so: what it holds goes to the stream.
+fn leaves_stream_of_blocks<T: Encode>(value: &T, cause: Cause) -> bool {
+    let mut target = [9u8; 4];
+    let mut stream = &mut target[..];
+    let outcome = encode_into_buf_write(value, &mut stream, config::standard());
+    fails_by(outcome, cause) && target == [1, 2, 9, 9]
+}
+
 /// Whether each call fails so.
 fn leaves_two<T: Encode>(alloc: Global, value: &T, cause: Cause) -> bool {
     leaves_slice(value, cause)
         && leaves_counter(value, cause)
         && leaves_stream(value, cause)
+        && leaves_stream_of_blocks(value, cause)
         && fails_by(encode_to_vec(alloc, value, config::standard()), cause)
 }
 

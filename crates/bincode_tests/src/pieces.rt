@@ -1,8 +1,8 @@
 //! Standard streams that take and give a part of what is asked, or are interrupted, with a count of their calls.
 
-use bincode::enc::{Encode, IoWriter};
+use bincode::enc::Encode;
 use bincode::error::{DecodeError, EncodeError};
-use bincode::{config, decode_from_std_read, encode_into_std_write, encode_into_writer};
+use bincode::{config, decode_from_std_read, encode_into_buf_write, encode_into_std_write};
 use std::alloc::Global;
 use std::io;
 use std::io::{ErrorKind, Read, Write};
@@ -133,18 +133,6 @@ fn reading_calls(
     }
 }
 
-/// Writes a value to a stream piece by piece, and returns the number of bytes.
-pub fn write_in_pieces<T: Encode, W: Write>(
-    value: T,
-    stream: &mut W,
-) -> Result<usize, EncodeError> {
-    let mut writer = IoWriter::new(stream);
-    match encode_into_writer(value, &mut writer, config::standard()) {
-        Ok(()) => Ok(writer.bytes_written()),
-        Err(e) => Err(e),
-    }
-}
-
 /// How many calls it takes to write the text of a word to a stream, in pieces or in blocks, if the stream then holds
 /// the word.
 fn writing_calls(
@@ -158,9 +146,9 @@ fn writing_calls(
     let (front, text) = front_of(sample.word, end.checked_sub(sample.count)?, end)?;
     let mut stream = stream_over(Vec::new(alloc), share, interruptions);
     let outcome = if in_blocks {
-        encode_into_std_write(text, &mut stream, config::standard())
+        encode_into_buf_write(text, &mut stream, config::standard())
     } else {
-        write_in_pieces(text, &mut stream)
+        encode_into_std_write(text, &mut stream, config::standard())
     };
     let written = outcome.ok()?;
     if written == front.len() && stream.bytes.as_slice() == front {
@@ -315,9 +303,9 @@ fn written_of(kind: ErrorKind, good: usize, in_blocks: bool) -> Option<usize> {
         calls: 0,
     };
     let outcome = if in_blocks {
-        encode_into_std_write(300u32, &mut stream, config::standard())
+        encode_into_buf_write(300u32, &mut stream, config::standard())
     } else {
-        write_in_pieces(300u32, &mut stream)
+        encode_into_std_write(300u32, &mut stream, config::standard())
     };
     let Err(EncodeError::Io { inner, index }) = outcome else {
         return None;
@@ -368,7 +356,7 @@ fn tells_the_end_of_a_stream(rt: HostRuntime) {
     );
     let mut room = [9u8; 3];
     let mut stream = &mut room[..];
-    let written = write_in_pieces((1u8, 300u32), &mut stream);
+    let written = encode_into_std_write((1u8, 300u32), &mut stream, config::standard());
     assert!(rt;
         matches!(
             written,
@@ -383,7 +371,7 @@ fn tells_the_end_of_a_stream(rt: HostRuntime) {
 fn tells_the_blocks_before_the_one_that_failed(rt: HostRuntime) {
     let mut room = [9u8; 520];
     let mut stream = &mut room[..];
-    let written = encode_into_std_write([300u16; 200], &mut stream, config::standard());
+    let written = encode_into_buf_write([300u16; 200], &mut stream, config::standard());
     assert!(rt;
         matches!(
             written,
