@@ -15,7 +15,7 @@ use bincode_decoder::decoder::{BorrowDecoder, BorrowedBytes};
 /// released before its value is read. Fails with the error of a value, or with `Memory` if the allocation is refused;
 /// never so for no values.
 #[inline]
-pub fn borrow_decode_vec<B: BorrowedBytes, D: BorrowDecoder<B>, T: BorrowDecode<B, D::Context>>(
+pub fn borrow_decode_vec<T: BorrowDecode<B, D::Context>, D: BorrowDecoder<B>, B: BorrowedBytes>(
     decoder: &mut D,
     len: usize,
 ) -> Result<Vec<T>, DecodeError>
@@ -34,10 +34,10 @@ pub fn borrow_decode_vec<B: BorrowedBytes, D: BorrowDecoder<B>, T: BorrowDecode<
 /// error of an element, or with `Memory` if `N` slots of `Option<T>` cannot exist (`slots_fit`).
 #[inline]
 pub fn borrow_decode_array<
-    B: BorrowedBytes,
-    D: BorrowDecoder<B>,
     T: BorrowDecode<B, D::Context>,
+    D: BorrowDecoder<B>,
     const N: usize,
+    B: BorrowedBytes,
 >(decoder: &mut D) -> Result<[T; N], DecodeError>
     requires { CanRelease D.C.bound (D.charge decoder.old) (N * T.words.claim) }
     ensures read { RunRead D.is_known D.remaining D.charge D.failures D.loans D.C.bound D.R.end_error D.R.device

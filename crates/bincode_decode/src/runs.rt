@@ -16,7 +16,7 @@ use bincode_decoder::decoder::Decoder;
 /// error is one that the device does not count, no more than the claims is released, and the content of `values` is
 /// unspecified. `Decode::Run` may read them in bulk, with the same result.
 #[inline]
-pub fn decode_run<Context: Drop, T: Decode<Context>, D: Decoder<Context = Context>>(
+pub fn decode_run<T: Decode<D::Context>, D: Decoder>(
     decoder: &mut D,
     values: &mut [T],
 ) -> Result<(), DecodeError>
@@ -31,7 +31,7 @@ pub fn decode_run<Context: Drop, T: Decode<Context>, D: Decoder<Context = Contex
 /// Decodes `len` values, as `decode_run` does, into a vector of that capacity. Fails with the error of a value, or with
 /// `Memory` if the allocation is refused; never so for no values.
 #[inline]
-pub fn decode_vec<Context: Drop, T: Decode<Context>, D: Decoder<Context = Context>>(
+pub fn decode_vec<T: Decode<D::Context>, D: Decoder>(
     decoder: &mut D,
     len: usize,
 ) -> Result<Vec<T>, DecodeError>
@@ -49,12 +49,9 @@ pub fn decode_vec<Context: Drop, T: Decode<Context>, D: Decoder<Context = Contex
 /// its element is read, so that in the end the elements' own charges stand in place of their claims. Fails with the
 /// error of an element, or with `Memory` if `N` slots of `Option<T>` cannot exist (`slots_fit`).
 #[inline]
-pub fn decode_array<
-    Context: Drop,
-    T: Decode<Context>,
-    D: Decoder<Context = Context>,
-    const N: usize,
->(decoder: &mut D) -> Result<[T; N], DecodeError>
+pub fn decode_array<T: Decode<D::Context>, D: Decoder, const N: usize>(
+    decoder: &mut D,
+) -> Result<[T; N], DecodeError>
     requires { CanRelease D.C.bound (D.charge decoder.old) (N * T.words.claim) }
     ensures read { RunRead D.is_known D.remaining D.charge D.failures D.loans D.C.bound D.R.end_error D.R.device
         (T.words.may_allocate ⊎ ¬ (SlotsFit T.row N)) T.words.claim (T.words.format D.C.setting) T.words.decodes_to N

@@ -75,6 +75,10 @@ impl<D: Decoder, Context: Drop> Decoder for WithContext<'_, D, Context> {
 
     ghost put_context = { λ d x. record d { context = x } };
 
+    ghost config_of = { λ d. D.config_of d.decoder.now };
+
+    ghost alloc_of = { λ d. D.alloc_of d.decoder.now };
+
     ghost loans = { λ d. d.decoder.ghost_name ∷ D.loans d.decoder.now };
 
     fn reader(&mut self) -> &mut D::R {
@@ -112,6 +116,14 @@ impl<D: Decoder, Context: Drop> Decoder for WithContext<'_, D, Context> {
     ghost context_put = { λ d x. refl };
 
     ghost context_kept = { λ d r. refl };
+
+    ghost reader_config = { λ d r. D.reader_config d.decoder.now r };
+
+    ghost context_config = { λ d x. refl };
+
+    ghost reader_alloc = { λ d r. D.reader_alloc d.decoder.now r };
+
+    ghost context_alloc = { λ d x. refl };
 
     ghost reader_is_known = { λ d. D.reader_is_known d.decoder.now };
 

@@ -1,6 +1,7 @@
 //! Decoders: a reader with a configuration, a context and a charge.
 ghost use Rattle.std.specs.Prelude.{◌≡◌, ◌*◌, ℕ, List};
 ghost use Rattle.std.specs.Borrow.{GName, Lends, sem};
+ghost use Rattle.std.specs.declared.alloc.Global.{Global};
 ghost use Rattle.std.specs.Bool.{MatchBool};
 ghost use Rattle.bincode_spec.specs.Answer.{Allows};
 ghost use Rattle.bincode_spec.specs.Layers.Releases.{CanRelease};
@@ -60,6 +61,12 @@ pub trait Decoder: Sealed {
     /// The decoder with another context.
     ghost put_context: { Self → Self.Context → Self };
 
+    /// The configuration.
+    ghost config_of: { Self → Self.C };
+
+    /// The allocator.
+    ghost alloc_of: { Self → Global };
+
     /// The references that it reads through. No call changes them.
     ghost loans: { Self → List GName };
 
@@ -73,11 +80,14 @@ pub trait Decoder: Sealed {
         ensures* lends { sem 𝓛 (Lends Self.row Self.Context.row self.entry result (put_context self.old)) }
         ensures value { result.now ≡ context_of self.old };
 
-    /// Lends the configuration.
-    fn config(&self) -> &Self::C;
+    /// Lends the configuration: the one that the decoder was made with. Most of it is known without this clause: byte
+    /// order, integer encoding and limit are those of the type `C`, whatever value it has.
+    fn config(&self) -> &Self::C
+        ensures { result.now ≡ config_of self.now };
 
-    /// The allocator for what is decoded.
-    fn alloc(&self) -> Global;
+    /// The allocator for what is decoded: the one that the decoder was made with.
+    fn alloc(&self) -> Global
+        ensures { result ≡ alloc_of self.now };
 
     /// Charges `n` bytes; without a limit nothing is counted. Fails with `LimitExceeded` if the new charge is above the
     /// limit. Even then the new charge is kept, if it fits 64 bits.
@@ -105,6 +115,15 @@ pub trait Decoder: Sealed {
     ghost context_put: { (d : Self) (x : Self.Context) → context_of (put_context d x) ≡ x };
 
     ghost context_kept: { (d : Self) (r : Self.R) → context_of (put_reader d r) ≡ context_of d };
+
+    /// Neither changes the configuration or the allocator.
+    ghost reader_config: { (d : Self) (r : Self.R) → config_of (put_reader d r) ≡ config_of d };
+
+    ghost context_config: { (d : Self) (x : Self.Context) → config_of (put_context d x) ≡ config_of d };
+
+    ghost reader_alloc: { (d : Self) (r : Self.R) → alloc_of (put_reader d r) ≡ alloc_of d };
+
+    ghost context_alloc: { (d : Self) (x : Self.Context) → alloc_of (put_context d x) ≡ alloc_of d };
 
     /// The decoder knows and counts what its reader does.
     ghost reader_is_known: { (d : Self) → is_known d → Self.R.is_known (reader_of d) };

@@ -26,6 +26,9 @@ pub trait Encoder: Sealed {
     /// The writer.
     ghost writer_of: { Self → Self.W };
 
+    /// The configuration.
+    ghost config_of: { Self → Self.C };
+
     /// The encoder with another writer.
     ghost put_writer: { Self → Self.W → Self };
 
@@ -37,8 +40,10 @@ pub trait Encoder: Sealed {
         ensures* lends { sem 𝓛 (Lends Self.row Self.W.row self.entry result (put_writer self.old)) }
         ensures value { result.now ≡ writer_of self.old };
 
-    /// Lends the configuration.
-    fn config(&self) -> &Self::C;
+    /// Lends the configuration: the one that the encoder was made with. Most of it is known without this clause: byte
+    /// order, integer encoding and limit are those of the type `C`, whatever value it has.
+    fn config(&self) -> &Self::C
+        ensures { result.now ≡ config_of self.now };
 
     /// Returns `true` only if `count` more bytes are sure to fit (`Writer::has_room_for`).
     fn has_room_for(&self, count: usize) -> bool
@@ -46,6 +51,8 @@ pub trait Encoder: Sealed {
             → WithinRoom (Self.W.room (writer_of self.now)) piece };
 
     ghost put_get: { (e : Self) (w : Self.W) → writer_of (put_writer e w) ≡ w };
+
+    ghost put_config: { (e : Self) (w : Self.W) → config_of (put_writer e w) ≡ config_of e };
 
     ghost put_loans: { (e : Self) (w : Self.W) → Self.W.loans w ≡ Self.W.loans (writer_of e)
         → loans (put_writer e w) ≡ loans e };
@@ -69,7 +76,8 @@ impl<W: Drop, C: Drop> Drop for EncoderImpl<W, C> {
 impl<W: Writer, C: Config> EncoderImpl<W, C> {
     /// An encoder into this writer.
     pub fn new(writer: W, config: C) -> EncoderImpl<W, C>
-        ensures { ⟦<EncoderImpl<W, C> as Encoder>⟧.writer_of result ≡ writer }
+        ensures writer { ⟦<EncoderImpl<W, C> as Encoder>⟧.writer_of result ≡ writer }
+        ensures config { ⟦<EncoderImpl<W, C> as Encoder>⟧.config_of result ≡ config }
     {
         EncoderImpl { writer, config }
     }
@@ -92,6 +100,8 @@ impl<W: Writer, C: Config> Encoder for EncoderImpl<W, C> {
 
     ghost writer_of = { λ e. e.writer };
 
+    ghost config_of = { λ e. e.config };
+
     ghost put_writer = { λ e w. record e { writer = w } };
 
     ghost loans = { λ e. W.loans e.writer };
@@ -110,6 +120,8 @@ impl<W: Writer, C: Config> Encoder for EncoderImpl<W, C> {
     }
 
     ghost put_get = { λ e w. refl };
+
+    ghost put_config = { λ e w. refl };
 
     ghost put_loans = { λ e w h. h };
 }
@@ -137,6 +149,7 @@ impl<'a, W: Writer, C: Config> LentEncoder<'a, W, C> {
         ensures loans { ⟦<LentEncoder<'a, W, C> as Encoder>⟧.loans result
             ≡ writer.entry.ghost_name ∷ W.loans writer.old }
         ensures writer { ⟦<LentEncoder<'a, W, C> as Encoder>⟧.writer_of result ≡ writer.old }
+        ensures config { ⟦<LentEncoder<'a, W, C> as Encoder>⟧.config_of result ≡ config.now }
     {
         LentEncoder { writer, config }
     }
@@ -150,6 +163,8 @@ impl<W: Writer, C: Config> Encoder for LentEncoder<'_, W, C> {
     type C = C;
 
     ghost writer_of = { λ e. e.writer.now };
+
+    ghost config_of = { λ e. e.config.now };
 
     ghost put_writer = { λ e w. record e { writer = record e.writer { now = w } } };
 
@@ -170,6 +185,8 @@ impl<W: Writer, C: Config> Encoder for LentEncoder<'_, W, C> {
 
     ghost put_get = { λ e w. refl };
 
+    ghost put_config = { λ e w. refl };
+
     ghost put_loans = { λ e w h. ap (λ z. e.writer.ghost_name ∷ z) h };
 }
 
@@ -181,6 +198,8 @@ impl<E: Encoder> Encoder for &mut E {
     type C = E::C;
 
     ghost writer_of = { λ e. E.writer_of e.now };
+
+    ghost config_of = { λ e. E.config_of e.now };
 
     ghost put_writer = { λ e w. record e { now = E.put_writer e.now w } };
 
@@ -200,6 +219,8 @@ impl<E: Encoder> Encoder for &mut E {
     }
 
     ghost put_get = { λ e w. E.put_get e.now w };
+
+    ghost put_config = { λ e w. E.put_config e.now w };
 
     ghost put_loans = { λ e w h. ap (λ z. e.ghost_name ∷ z) (E.put_loans e.now w h) };
 }

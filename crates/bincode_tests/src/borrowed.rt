@@ -91,7 +91,7 @@ fn read_vec<'a, D: BorrowDecoder<&'a [u8], Context = ()>>(
     decoder: &mut D,
 ) -> Result<Vec<&'a str>, DecodeError> {
     decoder.claim_container_read::<&str>(2)?;
-    borrow_decode_vec(decoder, 2)
+    borrow_decode_vec::<&'a str, D, &'a [u8]>(decoder, 2)
 }
 
 /// The two are read as an array.
@@ -99,7 +99,7 @@ fn read_array<'a, D: BorrowDecoder<&'a [u8], Context = ()>>(
     decoder: &mut D,
 ) -> Result<[&'a str; 2], DecodeError> {
     decoder.claim_container_read::<&str>(2)?;
-    borrow_decode_array(decoder)
+    borrow_decode_array::<&'a str, D, 2, &'a [u8]>(decoder)
 }
 
 /// Whether a and b are read as an array, and c and d as a vector.

@@ -43,13 +43,13 @@ fn reads_two_numbers<D: Decoder<Context = ()>>(mut decoder: &mut D) -> bool {
 /// What is read of two bytes, whose room is claimed.
 fn read_vec<D: Decoder<Context = ()>>(decoder: &mut D) -> Result<Vec<u8>, DecodeError> {
     decoder.claim_container_read::<u8>(2)?;
-    decode_vec(decoder, 2)
+    decode_vec::<u8, D>(decoder, 2)
 }
 
-/// The two are read as an array.
+/// The two are read as an array, of an element, a decoder and a length that are named in this order.
 fn read_array<D: Decoder<Context = ()>>(decoder: &mut D) -> Result<[u8; 2], DecodeError> {
     decoder.claim_container_read::<u8>(2)?;
-    decode_array(decoder)
+    decode_array::<u8, D, 2>(decoder)
 }
 
 /// What is read over three values, whose room is claimed.

@@ -46,6 +46,8 @@ impl<'a, R: Reader, C: Config, Context: Drop> LentDecoder<'a, R, C, Context> {
         ensures reader { ⟦<LentDecoder<'a, R, C, Context> as Decoder>⟧.reader_of result ≡ reader.old }
         ensures context { ⟦<LentDecoder<'a, R, C, Context> as Decoder>⟧.context_of result ≡ context.old }
         ensures charge { ⟦<LentDecoder<'a, R, C, Context> as Decoder>⟧.charge result ≡ 0 }
+        ensures config { ⟦<LentDecoder<'a, R, C, Context> as Decoder>⟧.config_of result ≡ config.now }
+        ensures alloc { ⟦<LentDecoder<'a, R, C, Context> as Decoder>⟧.alloc_of result ≡ alloc }
     {
         LentDecoder {
             reader,
@@ -81,6 +83,10 @@ impl<R: Reader, C: Config, Context: Drop> Decoder for LentDecoder<'_, R, C, Cont
     ghost context_of = { λ d. d.context.now };
 
     ghost put_context = { λ d x. record d { context = record d.context { now = x } } };
+
+    ghost config_of = { λ d. d.config.now };
+
+    ghost alloc_of = { λ d. d.alloc };
 
     ghost loans = { λ d. d.reader.ghost_name ∷ R.loans d.reader.now };
 
@@ -119,6 +125,14 @@ impl<R: Reader, C: Config, Context: Drop> Decoder for LentDecoder<'_, R, C, Cont
     ghost context_put = { λ d x. refl };
 
     ghost context_kept = { λ d r. refl };
+
+    ghost reader_config = { λ d r. refl };
+
+    ghost context_config = { λ d x. refl };
+
+    ghost reader_alloc = { λ d r. refl };
+
+    ghost context_alloc = { λ d x. refl };
 
     ghost reader_is_known = { λ d h. h };
 

@@ -36,6 +36,8 @@ impl<R: Reader, C: Config, Context: Drop> DecoderImpl<R, C, Context> {
         ensures reader { ⟦<DecoderImpl<R, C, Context> as Decoder>⟧.reader_of result ≡ reader }
         ensures context { ⟦<DecoderImpl<R, C, Context> as Decoder>⟧.context_of result ≡ context }
         ensures charge { ⟦<DecoderImpl<R, C, Context> as Decoder>⟧.charge result ≡ 0 }
+        ensures config { ⟦<DecoderImpl<R, C, Context> as Decoder>⟧.config_of result ≡ config }
+        ensures alloc { ⟦<DecoderImpl<R, C, Context> as Decoder>⟧.alloc_of result ≡ alloc }
     {
         DecoderImpl {
             reader,
@@ -71,6 +73,10 @@ impl<R: Reader, C: Config, Context: Drop> Decoder for DecoderImpl<R, C, Context>
     ghost context_of = { λ d. d.context };
 
     ghost put_context = { λ d x. record d { context = x } };
+
+    ghost config_of = { λ d. d.config };
+
+    ghost alloc_of = { λ d. d.alloc };
 
     ghost loans = { λ d. R.loans d.reader };
 
@@ -109,6 +115,14 @@ impl<R: Reader, C: Config, Context: Drop> Decoder for DecoderImpl<R, C, Context>
     ghost context_put = { λ d x. refl };
 
     ghost context_kept = { λ d r. refl };
+
+    ghost reader_config = { λ d r. refl };
+
+    ghost context_config = { λ d x. refl };
+
+    ghost reader_alloc = { λ d r. refl };
+
+    ghost context_alloc = { λ d x. refl };
 
     ghost reader_is_known = { λ d h. h };
 

@@ -32,6 +32,10 @@ impl<D: Decoder> Decoder for &mut D {
 
     ghost put_context = { λ d x. record d { now = D.put_context d.now x } };
 
+    ghost config_of = { λ d. D.config_of d.now };
+
+    ghost alloc_of = { λ d. D.alloc_of d.now };
+
     ghost loans = { λ d. d.ghost_name ∷ D.loans d.now };
 
     fn reader(&mut self) -> &mut D::R {
@@ -69,6 +73,14 @@ impl<D: Decoder> Decoder for &mut D {
     ghost context_put = { λ d x. D.context_put d.now x };
 
     ghost context_kept = { λ d r. D.context_kept d.now r };
+
+    ghost reader_config = { λ d r. D.reader_config d.now r };
+
+    ghost context_config = { λ d x. D.context_config d.now x };
+
+    ghost reader_alloc = { λ d r. D.reader_alloc d.now r };
+
+    ghost context_alloc = { λ d x. D.context_alloc d.now x };
 
     ghost reader_is_known = { λ d. D.reader_is_known d.now };
 
