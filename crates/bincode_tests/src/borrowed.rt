@@ -109,13 +109,18 @@ fn tells_faults_of_texts(alloc: Global) -> bool {
     )
 }
 
+/// Row: lent texts, limits 55 and 56.
+#[test]
+fn lends_a_list_of_texts(rt: HostRuntime) {
+    assert!(rt; lends_texts_within(rt.alloc()));
+}
+
 #[test]
 fn lends_texts_and_bytes(rt: HostRuntime) {
     let alloc = rt.alloc();
     rows_hold(
         &rt,
         &[
-            ("lent texts, limits 55 and 56", lends_texts_within(alloc)),
             ("a text that borrows", lends_what_may_be_owned(alloc)),
             ("lent bytes, limits 10 and 11", lends_bytes_within(alloc)),
             ("an option of a lent text", lends_under_fixed_numbers(alloc)),

@@ -108,7 +108,7 @@ fn leaves_the_pieces_that_fit(rt: HostRuntime) {
     );
 }
 
-/// The octets of an address are one piece.
+/// The octets of an address are one piece, and so are the bytes of an array.
 #[test]
 fn leaves_no_octet_of_an_address(rt: HostRuntime) {
     let four = Ipv4Addr::new(1, 2, 3, 4);
@@ -118,6 +118,7 @@ fn leaves_no_octet_of_an_address(rt: HostRuntime) {
         &[
             left_and_calls(&four) == Some(([9; 3], 1)),
             left_and_calls(&socket) == Some(([1, 2, 3, 4, 251], 3)),
+            left_and_calls(&[7u8; 5_000]) == Some(([9; 4_999], 1)),
         ],
     );
 }
