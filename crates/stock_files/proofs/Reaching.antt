@@ -46,8 +46,8 @@ module _ (most reach n : ℕ) (bytes : List ℕ) (enough : most + 8 ≤ reach + 
   -- the plan for the file's end is that for the file
   pub plan-of-file : (found : Survey) (repair : Repair) (plan : Plan) → IsPlan most found (drop start bytes) (min n reach) repair plan → IsPlan most found bytes n repair (of_file start plan)
   plan-of-file found repair plans.Leave p = (p.0, nothing-to-drop found repair p.1)
-  plan-of-file found repair plans.Cut p = (p.0, nothing-to-drop found repair p.1, elim p.2 [ | inl none ↦ inl (none-later none) | inr cuts ↦ inr cuts ])
-  plan-of-file found repair plans.Rewrite p = (p.0, elim p.1 [ | inl damaged ↦ inl damaged | inr late ↦ inr (start + late.0, to-file late.0 late.1) ])
+  plan-of-file found repair plans.Cut p = (p.0, nothing-to-drop found repair p.1, elim p.2 [ inl none ↦ inl (none-later none) | inr cuts ↦ inr cuts ])
+  plan-of-file found repair plans.Rewrite p = (p.0, elim p.1 [ inl damaged ↦ inl damaged | inr late ↦ inr (start + late.0, to-file late.0 late.1) ])
   plan-of-file found repair (plans.Refuse after) p = (
     p.0,
     p.1,
