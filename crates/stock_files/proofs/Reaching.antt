@@ -11,7 +11,7 @@ use Rattle.stock_files.specs.declared.repairing.Repair.{Repair}
 use Rattle.stock_files.specs.Repairs.{BeginsWithLonger, EndsAfter, HasNothingToDrop, IsPlan, NoneEndsAfter, of_file}
 
 module _ (most reach n : ℕ) (bytes : List ℕ) (enough : most + 8 ≤ reach + 1) where
-  start : ℕ
+  abbrev start : ℕ
   start = n - min n reach
 
   begins-late : (k : ℕ) → EndsAfter most bytes n k → start ≤ k
