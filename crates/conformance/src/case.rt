@@ -12,10 +12,15 @@ use std::ops::Bound;
 #[derive(Drop)]
 pub enum Case {
     Encode(Value),
+    EncodeStd(StdValue),
     Keep(Kept),
     RefusePair(Refusal<(u8, u32)>),
     Varint(Number),
     Decode(Input),
+    DecodeStd(StdInput),
+    DecodeWithin(Limited),
+    DecodeListWithin(LimitedList),
+    DecodeAddressWithin(LimitedAddress),
     /// A pair that is decoded from a stream of one byte a call, and by the calls of the run.
     DecodeBytewise(Decoding<(u32, u32), Standard>),
     Borrow(Borrowed),
@@ -31,10 +36,15 @@ pub enum Value {
     I8(Encoding<i8, Standard>),
     Char(Encoding<char, Standard>),
     Pair(Encoding<(u8, u32), Standard>),
-    /// The `Duration` of these seconds and nanoseconds.
-    Duration(Encoding<(u64, u32), Standard>),
     Option(Encoding<Option<u32>, Legacy>),
     Result(Encoding<Result<u8, u8>, Legacy>),
+}
+
+/// A value of a type of std that is encoded.
+#[derive(Drop)]
+pub enum StdValue {
+    /// The `Duration` of these seconds and nanoseconds.
+    Duration(Encoding<(u64, u32), Standard>),
     Bound(Encoding<Bound<u8>, Standard>),
     /// The vector of these items.
     List(Encoding<&'static [u32], Standard>),
@@ -65,55 +75,72 @@ pub enum Number {
     I128(Spelling<i128>),
 }
 
-/// An input that is decoded as a type.
+/// An input that is decoded.
 #[derive(Drop)]
 pub enum Input {
     U16(Decoding<u16, Standard>),
     U16Big(Decoding<u16, Big>),
-    U16Within2(Decoding<u16, Within<2>>),
     U64(Decoding<u64, Standard>),
-    U64Within7(Decoding<u64, Within<7>>),
-    U64Within8(Decoding<u64, Within<8>>),
     U128(Decoding<u128, Standard>),
     I16(Decoding<i16, Standard>),
     Isize(Decoding<isize, Standard>),
-    /// As a `NonZeroU16`; the answer has its number.
-    NonZeroU16(Decoding<u16, Standard>),
     Bool(Decoding<bool, Legacy>),
     Char(Decoding<char, Standard>),
-    CharWithin0(Decoding<char, Within<0>>),
-    PairWithin15(Decoding<(u64, u64), Within<15>>),
-    PairWithin16(Decoding<(u64, u64), Within<16>>),
     Option(Decoding<Option<u8>, Legacy>),
+}
+
+/// An input that is decoded as a type of std.
+#[derive(Drop)]
+pub enum StdInput {
+    /// As a `NonZeroU16`; the answer has its number.
+    NonZeroU16(Decoding<u16, Standard>),
     Bound(Decoding<Bound<u8>, Standard>),
     /// As a `Duration`; the answer has its seconds and nanoseconds.
     Duration(Decoding<(u64, u32), Standard>),
     Text(Decoding<&'static str, Standard>),
-    TextWithin100000(Decoding<&'static str, Within<100_000>>),
     /// As a C string; the answer has its bytes.
     CString(Decoding<&'static [u8], Standard>),
-    /// As a list; the answer has its items.
-    ListWithin100000(Decoding<&'static [u32], Within<100_000>>),
-    /// As a list of lists of bytes; the answer has them.
-    ListsWithin31(Decoding<&'static [&'static [u8]], Within<31>>),
-    ListsWithin32(Decoding<&'static [&'static [u8]], Within<32>>),
-    /// As a list of `()`; the answer has its length.
-    UnitsWithin7(Decoding<usize, Within<7>>),
-    UnitsWithin10(Decoding<usize, Within<10>>),
-    UnitsWithin11(Decoding<usize, Within<11>>),
-    /// As a list; the answer has its items.
-    OptionsWithin11(Decoding<&'static [Option<()>], Within<11>>),
-    OptionsWithin12(Decoding<&'static [Option<()>], Within<12>>),
     /// As a map; the answer has its entries.
     Map(Decoding<&'static [(u8, u8)], Standard>),
-    Ipv4Within3(Decoding<Ipv4Addr, Within<3>>),
-    Ipv4Within4(Decoding<Ipv4Addr, Within<4>>),
     Ip(Decoding<IpAddr, Standard>),
-    IpWithin7(Decoding<IpAddr, Within<7>>),
-    IpWithin8(Decoding<IpAddr, Within<8>>),
+}
+
+/// An input that is decoded under a limit.
+#[derive(Drop)]
+pub enum Limited {
+    U16To2(Decoding<u16, Within<2>>),
+    U64To7(Decoding<u64, Within<7>>),
+    U64To8(Decoding<u64, Within<8>>),
+    CharTo0(Decoding<char, Within<0>>),
+    PairTo15(Decoding<(u64, u64), Within<15>>),
+    PairTo16(Decoding<(u64, u64), Within<16>>),
+}
+
+/// An input that is decoded under a limit as a text, or as a list of which the answer has the items.
+#[derive(Drop)]
+pub enum LimitedList {
+    TextTo100000(Decoding<&'static str, Within<100_000>>),
+    NumbersTo100000(Decoding<&'static [u32], Within<100_000>>),
+    ListsTo31(Decoding<&'static [&'static [u8]], Within<31>>),
+    ListsTo32(Decoding<&'static [&'static [u8]], Within<32>>),
+    /// As a list of `()`; the answer has its length.
+    UnitsTo7(Decoding<usize, Within<7>>),
+    UnitsTo10(Decoding<usize, Within<10>>),
+    UnitsTo11(Decoding<usize, Within<11>>),
+    OptionsTo11(Decoding<&'static [Option<()>], Within<11>>),
+    OptionsTo12(Decoding<&'static [Option<()>], Within<12>>),
+}
+
+/// An input that is decoded under a limit as an address.
+#[derive(Drop)]
+pub enum LimitedAddress {
+    Ipv4To3(Decoding<Ipv4Addr, Within<3>>),
+    Ipv4To4(Decoding<Ipv4Addr, Within<4>>),
+    IpTo7(Decoding<IpAddr, Within<7>>),
+    IpTo8(Decoding<IpAddr, Within<8>>),
     /// As a `SocketAddrV6`; the answer has its parts.
-    SocketWithin17(Decoding<Socket, Within<17>>),
-    SocketWithin18(Decoding<Socket, Within<18>>),
+    SocketTo17(Decoding<Socket, Within<17>>),
+    SocketTo18(Decoding<Socket, Within<18>>),
 }
 
 /// An input whose texts are borrowed.

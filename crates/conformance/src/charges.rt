@@ -1,7 +1,7 @@
 //! Cases of the charges of addresses and of elements without bytes.
 
 use crate::addresses::SOCKET;
-use crate::case::{Answer, Case, Decoding, Input};
+use crate::case::{Answer, Case, Decoding, LimitedAddress, LimitedList, Value};
 use crate::fault::Fault;
 use crate::rows::Row;
 use crate::setting::Within;
@@ -15,7 +15,7 @@ pub(crate) fn charge_table() -> &'static [Row] {
 static CHARGES: [Row; 9] = [
     Row {
         label: "25a",
-        case: Case::Decode(Input::Ipv4Within3(Decoding {
+        case: Case::DecodeAddressWithin(LimitedAddress::Ipv4To3(Decoding {
             setting: Within::<3>,
             input: &[127, 0, 0, 1],
             answer: Answer::Fault(Fault::LimitExceeded),
@@ -23,7 +23,7 @@ static CHARGES: [Row; 9] = [
     },
     Row {
         label: "25b",
-        case: Case::Decode(Input::Ipv4Within4(Decoding {
+        case: Case::DecodeAddressWithin(LimitedAddress::Ipv4To4(Decoding {
             setting: Within::<4>,
             input: &[127, 0, 0, 1],
             answer: Answer::Value(Ipv4Addr::LOCALHOST, 4),
@@ -31,7 +31,7 @@ static CHARGES: [Row; 9] = [
     },
     Row {
         label: "25c",
-        case: Case::Decode(Input::Ipv4Within3(Decoding {
+        case: Case::DecodeAddressWithin(LimitedAddress::Ipv4To3(Decoding {
             setting: Within::<3>,
             input: &[],
             answer: Answer::Fault(Fault::LimitExceeded),
@@ -39,7 +39,7 @@ static CHARGES: [Row; 9] = [
     },
     Row {
         label: "25d",
-        case: Case::Decode(Input::SocketWithin17(Decoding {
+        case: Case::DecodeAddressWithin(LimitedAddress::SocketTo17(Decoding {
             setting: Within::<17>,
             input: &SOCKET,
             answer: Answer::Fault(Fault::LimitExceeded),
@@ -47,7 +47,7 @@ static CHARGES: [Row; 9] = [
     },
     Row {
         label: "25e",
-        case: Case::Decode(Input::UnitsWithin10(Decoding {
+        case: Case::DecodeListWithin(LimitedList::UnitsTo10(Decoding {
             setting: Within::<10>,
             input: &[3],
             answer: Answer::Fault(Fault::LimitExceeded),
@@ -55,7 +55,7 @@ static CHARGES: [Row; 9] = [
     },
     Row {
         label: "25f",
-        case: Case::Decode(Input::OptionsWithin11(Decoding {
+        case: Case::DecodeListWithin(LimitedList::OptionsTo11(Decoding {
             setting: Within::<11>,
             input: &[2, 0, 1],
             answer: Answer::Fault(Fault::LimitExceeded),
@@ -63,7 +63,7 @@ static CHARGES: [Row; 9] = [
     },
     Row {
         label: "25g",
-        case: Case::Decode(Input::OptionsWithin12(Decoding {
+        case: Case::DecodeListWithin(LimitedList::OptionsTo12(Decoding {
             setting: Within::<12>,
             input: &[2, 0, 1],
             answer: Answer::Value(&[None, Some(())], 3),
@@ -71,7 +71,7 @@ static CHARGES: [Row; 9] = [
     },
     Row {
         label: "25h",
-        case: Case::Decode(Input::IpWithin7(Decoding {
+        case: Case::DecodeAddressWithin(LimitedAddress::IpTo7(Decoding {
             setting: Within::<7>,
             input: &[0, 127, 0, 0, 1],
             answer: Answer::Fault(Fault::LimitExceeded),
@@ -79,7 +79,7 @@ static CHARGES: [Row; 9] = [
     },
     Row {
         label: "25i",
-        case: Case::Decode(Input::IpWithin8(Decoding {
+        case: Case::DecodeAddressWithin(LimitedAddress::IpTo8(Decoding {
             setting: Within::<8>,
             input: &[0, 127, 0, 0, 1],
             answer: Answer::Value(IpAddr::V4(Ipv4Addr::LOCALHOST), 5),

@@ -1,7 +1,10 @@
 //! Cases of addresses, of choices, and of what has no bytes.
 
 use crate::addresses::{SOCKET, Socket};
-use crate::case::{Answer, Case, Decoding, Encoding, Input, Kept, Value};
+use crate::case::{
+    Answer, Case, Decoding, Encoding, Input, Kept, LimitedAddress, LimitedList, StdInput, StdValue,
+    Value,
+};
 use crate::fault::Fault;
 use crate::rows::Row;
 use crate::setting::{Legacy, Standard, Within};
@@ -18,7 +21,7 @@ pub(crate) fn choice_table() -> &'static [Row] {
 static CHOICES: [Row; 19] = [
     Row {
         label: "17a",
-        case: Case::Encode(Value::Socket(Encoding {
+        case: Case::EncodeStd(StdValue::Socket(Encoding {
             setting: Standard,
             value: Socket {
                 ip: Ipv6Addr::LOCALHOST,
@@ -31,7 +34,7 @@ static CHOICES: [Row; 19] = [
     },
     Row {
         label: "17b",
-        case: Case::Decode(Input::SocketWithin18(Decoding {
+        case: Case::DecodeAddressWithin(LimitedAddress::SocketTo18(Decoding {
             setting: Within::<18>,
             input: &SOCKET,
             answer: Answer::Value(
@@ -47,7 +50,7 @@ static CHOICES: [Row; 19] = [
     },
     Row {
         label: "17c",
-        case: Case::Decode(Input::UnitsWithin11(Decoding {
+        case: Case::DecodeListWithin(LimitedList::UnitsTo11(Decoding {
             setting: Within::<11>,
             input: &[3],
             answer: Answer::Value(3, 1),
@@ -55,7 +58,7 @@ static CHOICES: [Row; 19] = [
     },
     Row {
         label: "17d",
-        case: Case::Decode(Input::UnitsWithin7(Decoding {
+        case: Case::DecodeListWithin(LimitedList::UnitsTo7(Decoding {
             setting: Within::<7>,
             input: &[3],
             answer: Answer::Fault(Fault::LimitExceeded),
@@ -99,7 +102,7 @@ static CHOICES: [Row; 19] = [
     },
     Row {
         label: "19e",
-        case: Case::Decode(Input::NonZeroU16(Decoding {
+        case: Case::DecodeStd(StdInput::NonZeroU16(Decoding {
             setting: Standard,
             input: &[0],
             answer: Answer::Fault(Fault::NonZeroTypeIsZero {
@@ -133,7 +136,7 @@ static CHOICES: [Row; 19] = [
     },
     Row {
         label: "21b",
-        case: Case::Encode(Value::List(Encoding {
+        case: Case::EncodeStd(StdValue::List(Encoding {
             setting: Standard,
             value: &[],
             bytes: &[0],
@@ -141,7 +144,7 @@ static CHOICES: [Row; 19] = [
     },
     Row {
         label: "21c",
-        case: Case::Encode(Value::ListLegacy(Encoding {
+        case: Case::EncodeStd(StdValue::ListLegacy(Encoding {
             setting: Legacy,
             value: &[],
             bytes: &[0, 0, 0, 0, 0, 0, 0, 0],
@@ -149,7 +152,7 @@ static CHOICES: [Row; 19] = [
     },
     Row {
         label: "22a",
-        case: Case::Encode(Value::Ip(Encoding {
+        case: Case::EncodeStd(StdValue::Ip(Encoding {
             setting: Standard,
             value: IpAddr::V4(Ipv4Addr::LOCALHOST),
             bytes: &[0, 127, 0, 0, 1],
@@ -157,7 +160,7 @@ static CHOICES: [Row; 19] = [
     },
     Row {
         label: "22b",
-        case: Case::Encode(Value::IpLegacy(Encoding {
+        case: Case::EncodeStd(StdValue::IpLegacy(Encoding {
             setting: Legacy,
             value: IpAddr::V4(Ipv4Addr::LOCALHOST),
             bytes: &[0, 0, 0, 0, 127, 0, 0, 1],
@@ -165,7 +168,7 @@ static CHOICES: [Row; 19] = [
     },
     Row {
         label: "22c",
-        case: Case::Decode(Input::Ip(Decoding {
+        case: Case::DecodeStd(StdInput::Ip(Decoding {
             setting: Standard,
             input: &[2],
             answer: Answer::Fault(Fault::UnexpectedVariant {
@@ -177,7 +180,7 @@ static CHOICES: [Row; 19] = [
     },
     Row {
         label: "23a",
-        case: Case::Encode(Value::Bound(Encoding {
+        case: Case::EncodeStd(StdValue::Bound(Encoding {
             setting: Standard,
             value: Bound::Excluded(7),
             bytes: &[2, 7],
@@ -185,7 +188,7 @@ static CHOICES: [Row; 19] = [
     },
     Row {
         label: "23b",
-        case: Case::Decode(Input::Bound(Decoding {
+        case: Case::DecodeStd(StdInput::Bound(Decoding {
             setting: Standard,
             input: &[3],
             answer: Answer::Fault(Fault::UnexpectedVariant {

@@ -1,6 +1,8 @@
 //! Cases of maps, texts, durations and pairs.
 
-use crate::case::{Answer, Borrowed, Case, Decoding, Encoding, Input, Lending, Refusal, Value};
+use crate::case::{
+    Answer, Borrowed, Case, Decoding, Encoding, Lending, Refusal, StdInput, StdValue, Value,
+};
 use crate::fault::Fault;
 use crate::rows::Row;
 use crate::setting::Standard;
@@ -13,7 +15,7 @@ pub(crate) fn collection_table() -> &'static [Row] {
 static COLLECTIONS: [Row; 12] = [
     Row {
         label: "12a",
-        case: Case::Decode(Input::Map(Decoding {
+        case: Case::DecodeStd(StdInput::Map(Decoding {
             setting: Standard,
             input: &[3, 1, 10, 2, 20, 1, 30],
             answer: Answer::Value(&[(1, 30), (2, 20)], 7),
@@ -21,7 +23,7 @@ static COLLECTIONS: [Row; 12] = [
     },
     Row {
         label: "12b",
-        case: Case::Encode(Value::Map(Encoding {
+        case: Case::EncodeStd(StdValue::Map(Encoding {
             setting: Standard,
             value: &[(1, 30), (2, 20)],
             bytes: &[2, 1, 30, 2, 20],
@@ -29,7 +31,7 @@ static COLLECTIONS: [Row; 12] = [
     },
     Row {
         label: "13a",
-        case: Case::Decode(Input::Text(Decoding {
+        case: Case::DecodeStd(StdInput::Text(Decoding {
             setting: Standard,
             input: &[2, 195, 40],
             answer: Answer::Fault(Fault::Utf8),
@@ -37,7 +39,7 @@ static COLLECTIONS: [Row; 12] = [
     },
     Row {
         label: "13b",
-        case: Case::Decode(Input::Text(Decoding {
+        case: Case::DecodeStd(StdInput::Text(Decoding {
             setting: Standard,
             input: &[2, 195],
             answer: Answer::Fault(Fault::EndsEarly),
@@ -45,7 +47,7 @@ static COLLECTIONS: [Row; 12] = [
     },
     Row {
         label: "13c",
-        case: Case::Decode(Input::CString(Decoding {
+        case: Case::DecodeStd(StdInput::CString(Decoding {
             setting: Standard,
             input: &[3, 65, 0, 66],
             answer: Answer::Fault(Fault::CStringNulError { position: 1 }),
@@ -53,7 +55,7 @@ static COLLECTIONS: [Row; 12] = [
     },
     Row {
         label: "14a",
-        case: Case::Decode(Input::Duration(Decoding {
+        case: Case::DecodeStd(StdInput::Duration(Decoding {
             setting: Standard,
             input: &[252, 255, 255, 255, 255, 252, 44, 203, 154, 59],
             answer: Answer::Value((4_294_967_296, 300), 10),
@@ -61,7 +63,7 @@ static COLLECTIONS: [Row; 12] = [
     },
     Row {
         label: "14b",
-        case: Case::Encode(Value::Duration(Encoding {
+        case: Case::EncodeStd(StdValue::Duration(Encoding {
             setting: Standard,
             value: (4_294_967_296, 300),
             bytes: &[253, 0, 0, 0, 0, 1, 0, 0, 0, 251, 44, 1],
@@ -69,7 +71,7 @@ static COLLECTIONS: [Row; 12] = [
     },
     Row {
         label: "14c",
-        case: Case::Decode(Input::Duration(Decoding {
+        case: Case::DecodeStd(StdInput::Duration(Decoding {
             setting: Standard,
             input: &[
                 253, 255, 255, 255, 255, 255, 255, 255, 255, 252, 0, 202, 154, 59,

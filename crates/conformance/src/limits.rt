@@ -1,6 +1,6 @@
 //! Cases of characters, and of what a limit allows.
 
-use crate::case::{Answer, Case, Decoding, Encoding, Input, Value};
+use crate::case::{Answer, Case, Decoding, Encoding, Input, Limited, LimitedList, Value};
 use crate::fault::Fault;
 use crate::rows::Row;
 use crate::setting::{Standard, Within};
@@ -13,7 +13,7 @@ pub(crate) fn limit_table() -> &'static [Row] {
 static LIMITS: [Row; 15] = [
     Row {
         label: "7a",
-        case: Case::Decode(Input::CharWithin0(Decoding {
+        case: Case::DecodeWithin(Limited::CharTo0(Decoding {
             setting: Within::<0>,
             input: &[],
             answer: Answer::Fault(Fault::UnexpectedEnd { additional: 1 }),
@@ -21,7 +21,7 @@ static LIMITS: [Row; 15] = [
     },
     Row {
         label: "7b",
-        case: Case::Decode(Input::CharWithin0(Decoding {
+        case: Case::DecodeWithin(Limited::CharTo0(Decoding {
             setting: Within::<0>,
             input: &[65],
             answer: Answer::Fault(Fault::LimitExceeded),
@@ -61,7 +61,7 @@ static LIMITS: [Row; 15] = [
     },
     Row {
         label: "7g",
-        case: Case::Decode(Input::U64Within7(Decoding {
+        case: Case::DecodeWithin(Limited::U64To7(Decoding {
             setting: Within::<7>,
             input: &[],
             answer: Answer::Fault(Fault::LimitExceeded),
@@ -69,7 +69,7 @@ static LIMITS: [Row; 15] = [
     },
     Row {
         label: "7h",
-        case: Case::Decode(Input::U64Within8(Decoding {
+        case: Case::DecodeWithin(Limited::U64To8(Decoding {
             setting: Within::<8>,
             input: &[],
             answer: Answer::Fault(Fault::UnexpectedEnd { additional: 1 }),
@@ -77,7 +77,7 @@ static LIMITS: [Row; 15] = [
     },
     Row {
         label: "8a",
-        case: Case::Decode(Input::ListWithin100000(Decoding {
+        case: Case::DecodeListWithin(LimitedList::NumbersTo100000(Decoding {
             setting: Within::<100_000>,
             input: &[253, 255, 255, 255, 255, 255, 255, 255, 255],
             answer: Answer::Fault(Fault::LimitExceeded),
@@ -85,7 +85,7 @@ static LIMITS: [Row; 15] = [
     },
     Row {
         label: "8b",
-        case: Case::Decode(Input::TextWithin100000(Decoding {
+        case: Case::DecodeListWithin(LimitedList::TextTo100000(Decoding {
             setting: Within::<100_000>,
             input: &[252, 160, 134, 1, 0],
             answer: Answer::Fault(Fault::LimitExceeded),
@@ -93,7 +93,7 @@ static LIMITS: [Row; 15] = [
     },
     Row {
         label: "9a",
-        case: Case::Decode(Input::ListsWithin31(Decoding {
+        case: Case::DecodeListWithin(LimitedList::ListsTo31(Decoding {
             setting: Within::<31>,
             input: &[1, 2, 7, 8],
             answer: Answer::Fault(Fault::LimitExceeded),
@@ -101,7 +101,7 @@ static LIMITS: [Row; 15] = [
     },
     Row {
         label: "9b",
-        case: Case::Decode(Input::ListsWithin32(Decoding {
+        case: Case::DecodeListWithin(LimitedList::ListsTo32(Decoding {
             setting: Within::<32>,
             input: &[1, 2, 7, 8],
             answer: Answer::Value(&[&[7, 8]], 4),
@@ -109,7 +109,7 @@ static LIMITS: [Row; 15] = [
     },
     Row {
         label: "10a",
-        case: Case::Decode(Input::PairWithin15(Decoding {
+        case: Case::DecodeWithin(Limited::PairTo15(Decoding {
             setting: Within::<15>,
             input: &[5, 6],
             answer: Answer::Fault(Fault::LimitExceeded),
@@ -117,7 +117,7 @@ static LIMITS: [Row; 15] = [
     },
     Row {
         label: "10b",
-        case: Case::Decode(Input::PairWithin16(Decoding {
+        case: Case::DecodeWithin(Limited::PairTo16(Decoding {
             setting: Within::<16>,
             input: &[5, 6],
             answer: Answer::Value((5, 6), 2),
@@ -125,7 +125,7 @@ static LIMITS: [Row; 15] = [
     },
     Row {
         label: "11",
-        case: Case::Decode(Input::U16Within2(Decoding {
+        case: Case::DecodeWithin(Limited::U16To2(Decoding {
             setting: Within::<2>,
             input: &[251, 0, 1],
             answer: Answer::Value(256, 3),

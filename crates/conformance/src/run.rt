@@ -4,8 +4,10 @@ use crate::addresses::address_of;
 use crate::borrow::borrows;
 use crate::calls::{Bytewise, Calls};
 use crate::case::{
-    Answer, Case, Decoding, Encoding, Input, Kept, Number, Refusal, Spelling, Value,
+    Answer, Case, Decoding, Encoding, Input, Kept, Limited, LimitedAddress, LimitedList, Number,
+    Refusal, Spelling, StdInput, StdValue, Value,
 };
+use crate::fault::Fault;
 use crate::setting::{Big, Setting, Standard};
 use crate::shaped::shaped_holds;
 use crate::wanted::Wanted;
@@ -30,11 +32,16 @@ use std::ops::Bound;
 pub(crate) fn holds<K: Calls>(alloc: Global, case: &Case) -> Result<bool, AllocError> {
     match case {
         Case::Encode(value) => encodes_value::<K>(alloc, value),
+        Case::EncodeStd(value) => encodes_std::<K>(alloc, value),
         Case::Keep(Kept::Unit(row)) => keeps::<K, (), _>(alloc, row),
         Case::Keep(Kept::Five(row)) => { keeps::<K, (u8, u32, i128, char, [u8; 4]), _>(alloc, row) }
         Case::RefusePair(row) => refuses::<K, (u8, u32)>(alloc, row),
         Case::Varint(number) => spells_number::<K>(alloc, number),
         Case::Decode(input) => decodes_input::<K>(alloc, input),
+        Case::DecodeStd(input) => decodes_std::<K>(alloc, input),
+        Case::DecodeWithin(limited) => decodes_within::<K>(alloc, limited),
+        Case::DecodeListWithin(limited) => decodes_list_within::<K>(alloc, limited),
+        Case::DecodeAddressWithin(limited) => decodes_address_within::<K>(alloc, limited),
         Case::DecodeBytewise(row) => {
             Ok(
                 decodes::<Bytewise, (u32, u32), _, _>(alloc, row)?
@@ -54,18 +61,23 @@ fn encodes_value<K: Calls>(alloc: Global, value: &Value) -> Result<bool, AllocEr
         Value::I8(row) => encodes_described::<K, i8, _, _, _>(alloc, row, row.value),
         Value::Char(row) => encodes_described::<K, char, _, _, _>(alloc, row, row.value),
         Value::Pair(row) => encodes_described::<K, (u8, u32), _, _, _>(alloc, row, row.value),
-        Value::Duration(row) => encodes_duration::<K>(alloc, row),
         Value::Option(row) => encodes_described::<K, Option<u32>, _, _, _>(alloc, row, row.value),
         Value::Result(row) => {
             encodes_described::<K, Result<u8, u8>, _, _, _>(alloc, row, row.value)
         }
-        Value::Bound(row) => encodes::<K, _, _, _>(alloc, row, row.value),
-        Value::List(row) => encodes_list::<K, _>(alloc, row),
-        Value::ListLegacy(row) => encodes_list::<K, _>(alloc, row),
-        Value::Map(row) => encodes_map::<K>(alloc, row),
-        Value::Ip(row) => encodes::<K, _, _, _>(alloc, row, row.value),
-        Value::IpLegacy(row) => encodes::<K, _, _, _>(alloc, row, row.value),
-        Value::Socket(row) => encodes::<K, _, _, _>(alloc, row, address_of(row.value)),
+    }
+}
+
+fn encodes_std<K: Calls>(alloc: Global, value: &StdValue) -> Result<bool, AllocError> {
+    match value {
+        StdValue::Duration(row) => encodes_duration::<K>(alloc, row),
+        StdValue::Bound(row) => encodes::<K, _, _, _>(alloc, row, row.value),
+        StdValue::List(row) => encodes_list::<K, _>(alloc, row),
+        StdValue::ListLegacy(row) => encodes_list::<K, _>(alloc, row),
+        StdValue::Map(row) => encodes_map::<K>(alloc, row),
+        StdValue::Ip(row) => encodes::<K, _, _, _>(alloc, row, row.value),
+        StdValue::IpLegacy(row) => encodes::<K, _, _, _>(alloc, row, row.value),
+        StdValue::Socket(row) => encodes::<K, _, _, _>(alloc, row, address_of(row.value)),
     }
 }
 
@@ -86,42 +98,65 @@ fn decodes_input<K: Calls>(alloc: Global, input: &Input) -> Result<bool, AllocEr
     match input {
         Input::U16(row) => decodes_described::<K, u16, _, _>(alloc, row),
         Input::U16Big(row) => decodes_described::<K, u16, _, _>(alloc, row),
-        Input::U16Within2(row) => decodes_described::<K, u16, _, _>(alloc, row),
         Input::U64(row) => decodes_described::<K, u64, _, _>(alloc, row),
-        Input::U64Within7(row) => decodes_described::<K, u64, _, _>(alloc, row),
-        Input::U64Within8(row) => decodes_described::<K, u64, _, _>(alloc, row),
         Input::U128(row) => decodes_described::<K, u128, _, _>(alloc, row),
         Input::I16(row) => decodes_described::<K, i16, _, _>(alloc, row),
         Input::Isize(row) => decodes_described::<K, isize, _, _>(alloc, row),
-        Input::NonZeroU16(row) => decodes::<K, NonZeroU16, _, _>(alloc, row),
         Input::Bool(row) => decodes_described::<K, bool, _, _>(alloc, row),
         Input::Char(row) => decodes_described::<K, char, _, _>(alloc, row),
-        Input::CharWithin0(row) => decodes_described::<K, char, _, _>(alloc, row),
-        Input::PairWithin15(row) => decodes_described::<K, (u64, u64), _, _>(alloc, row),
-        Input::PairWithin16(row) => decodes_described::<K, (u64, u64), _, _>(alloc, row),
         Input::Option(row) => decodes_described::<K, Option<u8>, _, _>(alloc, row),
-        Input::Bound(row) => decodes::<K, Bound<u8>, _, _>(alloc, row),
-        Input::Duration(row) => decodes::<K, Duration, _, _>(alloc, row),
-        Input::Text(row) => decodes_described::<K, String, _, _>(alloc, row),
-        Input::TextWithin100000(row) => decodes_described::<K, String, _, _>(alloc, row),
-        Input::CString(row) => decodes::<K, CString, _, _>(alloc, row),
-        Input::ListWithin100000(row) => decodes_described::<K, Vec<u32>, _, _>(alloc, row),
-        Input::ListsWithin31(row) => decodes_described::<K, Vec<Vec<u8>>, _, _>(alloc, row),
-        Input::ListsWithin32(row) => decodes_described::<K, Vec<Vec<u8>>, _, _>(alloc, row),
-        Input::UnitsWithin7(row) => decodes_described::<K, Vec<()>, _, _>(alloc, row),
-        Input::UnitsWithin10(row) => decodes_described::<K, Vec<()>, _, _>(alloc, row),
-        Input::UnitsWithin11(row) => decodes_described::<K, Vec<()>, _, _>(alloc, row),
-        Input::OptionsWithin11(row) => decodes_described::<K, Vec<Option<()>>, _, _>(alloc, row),
-        Input::OptionsWithin12(row) => decodes_described::<K, Vec<Option<()>>, _, _>(alloc, row),
+    }
+}
+
+fn decodes_std<K: Calls>(alloc: Global, input: &StdInput) -> Result<bool, AllocError> {
+    match input {
+        StdInput::NonZeroU16(row) => decodes::<K, NonZeroU16, _, _>(alloc, row),
+        StdInput::Bound(row) => decodes::<K, Bound<u8>, _, _>(alloc, row),
+        StdInput::Duration(row) => decodes::<K, Duration, _, _>(alloc, row),
+        StdInput::Text(row) => decodes_described::<K, String, _, _>(alloc, row),
+        StdInput::CString(row) => decodes::<K, CString, _, _>(alloc, row),
         // Not by its shape, which keeps both of two equal keys.
-        Input::Map(row) => decodes::<K, BTreeMap<u8, u8>, _, _>(alloc, row),
-        Input::Ipv4Within3(row) => decodes::<K, Ipv4Addr, _, _>(alloc, row),
-        Input::Ipv4Within4(row) => decodes::<K, Ipv4Addr, _, _>(alloc, row),
-        Input::Ip(row) => decodes::<K, IpAddr, _, _>(alloc, row),
-        Input::IpWithin7(row) => decodes::<K, IpAddr, _, _>(alloc, row),
-        Input::IpWithin8(row) => decodes::<K, IpAddr, _, _>(alloc, row),
-        Input::SocketWithin17(row) => decodes::<K, SocketAddrV6, _, _>(alloc, row),
-        Input::SocketWithin18(row) => decodes::<K, SocketAddrV6, _, _>(alloc, row),
+        StdInput::Map(row) => decodes::<K, BTreeMap<u8, u8>, _, _>(alloc, row),
+        StdInput::Ip(row) => decodes::<K, IpAddr, _, _>(alloc, row),
+    }
+}
+
+fn decodes_within<K: Calls>(alloc: Global, limited: &Limited) -> Result<bool, AllocError> {
+    match limited {
+        Limited::U16To2(row) => decodes_described::<K, u16, _, _>(alloc, row),
+        Limited::U64To7(row) => decodes_described::<K, u64, _, _>(alloc, row),
+        Limited::U64To8(row) => decodes_described::<K, u64, _, _>(alloc, row),
+        Limited::CharTo0(row) => decodes_described::<K, char, _, _>(alloc, row),
+        Limited::PairTo15(row) => decodes_described::<K, (u64, u64), _, _>(alloc, row),
+        Limited::PairTo16(row) => decodes_described::<K, (u64, u64), _, _>(alloc, row),
+    }
+}
+
+fn decodes_list_within<K: Calls>(alloc: Global, limited: &LimitedList) -> Result<bool, AllocError> {
+    match limited {
+        LimitedList::TextTo100000(row) => decodes_described::<K, String, _, _>(alloc, row),
+        LimitedList::NumbersTo100000(row) => decodes_described::<K, Vec<u32>, _, _>(alloc, row),
+        LimitedList::ListsTo31(row) => decodes_described::<K, Vec<Vec<u8>>, _, _>(alloc, row),
+        LimitedList::ListsTo32(row) => decodes_described::<K, Vec<Vec<u8>>, _, _>(alloc, row),
+        LimitedList::UnitsTo7(row) => decodes_described::<K, Vec<()>, _, _>(alloc, row),
+        LimitedList::UnitsTo10(row) => decodes_described::<K, Vec<()>, _, _>(alloc, row),
+        LimitedList::UnitsTo11(row) => decodes_described::<K, Vec<()>, _, _>(alloc, row),
+        LimitedList::OptionsTo11(row) => decodes_described::<K, Vec<Option<()>>, _, _>(alloc, row),
+        LimitedList::OptionsTo12(row) => decodes_described::<K, Vec<Option<()>>, _, _>(alloc, row),
+    }
+}
+
+fn decodes_address_within<K: Calls>(
+    alloc: Global,
+    limited: &LimitedAddress,
+) -> Result<bool, AllocError> {
+    match limited {
+        LimitedAddress::Ipv4To3(row) => decodes::<K, Ipv4Addr, _, _>(alloc, row),
+        LimitedAddress::Ipv4To4(row) => decodes::<K, Ipv4Addr, _, _>(alloc, row),
+        LimitedAddress::IpTo7(row) => decodes::<K, IpAddr, _, _>(alloc, row),
+        LimitedAddress::IpTo8(row) => decodes::<K, IpAddr, _, _>(alloc, row),
+        LimitedAddress::SocketTo17(row) => decodes::<K, SocketAddrV6, _, _>(alloc, row),
+        LimitedAddress::SocketTo18(row) => decodes::<K, SocketAddrV6, _, _>(alloc, row),
     }
 }
 
@@ -364,17 +399,26 @@ fn is_answer<K: Calls, T: Drop, W: Wanted<T>>(
     outcome: Option<Result<(T, usize), DecodeError>>,
     answer: &Answer<W>,
 ) -> Result<bool, AllocError> {
-    let Some(outcome) = outcome else {
-        return Ok(false);
-    };
-    match (&outcome, answer) {
-        (Err(DecodeError::Memory), _) => Err(AllocError),
-        (Ok((value, taken)), Answer::Value(wanted, length)) => {
-            Ok(wanted.is_met_by(value) && *taken == *length)
-        }
-        (Err(error), Answer::Fault(expected)) => {
-            Ok(matches!(K::fault(error), Some(fault) if fault.meets(*expected)))
-        }
-        _ => Ok(false),
+    match outcome {
+        Some(Ok((value, taken))) => Ok(is_value(&value, taken, answer)),
+        Some(Err(DecodeError::Memory)) => Err(AllocError),
+        Some(Err(error)) => Ok(is_fault(K::fault(&error), answer)),
+        None => Ok(false),
+    }
+}
+
+/// Whether the answer is this value, of so many bytes.
+fn is_value<T, W: Wanted<T>>(value: &T, taken: usize, answer: &Answer<W>) -> bool {
+    match answer {
+        Answer::Value(wanted, length) => wanted.is_met_by(value) && taken == *length,
+        Answer::Fault(_) => false,
+    }
+}
+
+/// Whether the answer is this fault.
+pub(crate) fn is_fault<W>(fault: Option<Fault>, answer: &Answer<W>) -> bool {
+    match (fault, answer) {
+        (Some(fault), Answer::Fault(expected)) => fault.meets(*expected),
+        _ => false,
     }
 }

@@ -3,7 +3,7 @@
 use crate::case::{Answer, Case, Encoding, Refusal};
 use crate::fault::Fault;
 use crate::rows::Row;
-use crate::run::{ROOM, fills};
+use crate::run::{ROOM, fills, is_fault};
 use crate::setting::{Setting, Standard, Within};
 use bincode::config;
 use bincode::enc::write::SliceWriter;
@@ -41,7 +41,7 @@ pub struct Reading<S> {
 pub struct Misread {
     pub by: Outline,
     pub input: &'static [u8],
-    pub fault: Fault,
+    pub answer: Answer<Image>,
 }
 
 /// The name of a shape, since a shape itself allocates.
@@ -151,13 +151,18 @@ fn reads<S: Setting>(alloc: Global, row: &Reading<S>) -> Result<bool, AllocError
         row.input,
         row.setting.config(),
     );
-    match (&outcome, &row.answer) {
-        (Err(DecodeError::Memory), _) => Err(AllocError),
-        (Ok((value, taken)), Answer::Value(image, length)) => {
-            Ok(is_value_of(value, *image) && *taken == *length)
-        }
-        (Err(error), Answer::Fault(fault)) => Ok(Fault::of(error) == Some(*fault)),
-        _ => Ok(false),
+    match outcome {
+        Ok((value, taken)) => Ok(is_answer(&value, taken, &row.answer)),
+        Err(DecodeError::Memory) => Err(AllocError),
+        Err(error) => Ok(is_fault(Fault::of(&error), &row.answer)),
+    }
+}
+
+/// Whether the answer is this generic value, of so many bytes.
+fn is_answer(value: &Value, taken: usize, answer: &Answer<Image>) -> bool {
+    match answer {
+        Answer::Value(image, length) => is_value_of(value, *image) && taken == *length,
+        Answer::Fault(_) => false,
     }
 }
 
@@ -193,7 +198,7 @@ fn misreads(alloc: Global, row: &Misread) -> Result<bool, AllocError> {
     match outcome {
         Ok(_) => Ok(false),
         Err(DecodeError::Memory) => Err(AllocError),
-        Err(error) => Ok(Fault::of(&error) == Some(row.fault)),
+        Err(error) => Ok(is_fault(Fault::of(&error), &row.answer)),
     }
 }
 
@@ -240,7 +245,7 @@ static SHAPED: [Row; 7] = [
         case: Case::Shaped(Shaped::Fault(Misread {
             by: Outline::NoVariants,
             input: &[],
-            fault: Fault::EmptyEnum,
+            answer: Answer::Fault(Fault::EmptyEnum),
         })),
     },
     Row {
@@ -248,11 +253,11 @@ static SHAPED: [Row; 7] = [
         case: Case::Shaped(Shaped::Fault(Misread {
             by: Outline::TwoBytes,
             input: &[2],
-            fault: Fault::UnexpectedVariant {
+            answer: Answer::Fault(Fault::UnexpectedVariant {
                 found: 2,
                 min: 0,
                 max: 1,
-            },
+            }),
         })),
     },
     Row {
@@ -260,7 +265,7 @@ static SHAPED: [Row; 7] = [
         case: Case::Shaped(Shaped::Fault(Misread {
             by: Outline::MaybeTruth,
             input: &[1, 2],
-            fault: Fault::InvalidBooleanValue(2),
+            answer: Answer::Fault(Fault::InvalidBooleanValue(2)),
         })),
     },
 ];

@@ -1,6 +1,6 @@
 //! Cases with bytes after an encoding, which the program leaves out.
 
-use crate::case::{Answer, Case, Decoding, Input};
+use crate::case::{Answer, Case, Decoding, Input, StdInput, Value};
 use crate::rows::Row;
 use crate::setting::{Legacy, Standard};
 use std::ops::Bound;
@@ -69,7 +69,7 @@ static MORE: [Row; 15] = [
     },
     Row {
         label: "nonzero and more",
-        case: Case::Decode(Input::NonZeroU16(Decoding {
+        case: Case::DecodeStd(StdInput::NonZeroU16(Decoding {
             setting: Standard,
             input: &[5, 99],
             answer: Answer::Value(5, 1),
@@ -101,7 +101,7 @@ static MORE: [Row; 15] = [
     },
     Row {
         label: "bound and more",
-        case: Case::Decode(Input::Bound(Decoding {
+        case: Case::DecodeStd(StdInput::Bound(Decoding {
             setting: Standard,
             input: &[2, 7, 99],
             answer: Answer::Value(Bound::Excluded(7), 2),
@@ -109,7 +109,7 @@ static MORE: [Row; 15] = [
     },
     Row {
         label: "span and more",
-        case: Case::Decode(Input::Duration(Decoding {
+        case: Case::DecodeStd(StdInput::Duration(Decoding {
             setting: Standard,
             input: &[1, 2, 99],
             answer: Answer::Value((1, 2), 2),
@@ -117,7 +117,7 @@ static MORE: [Row; 15] = [
     },
     Row {
         label: "text and more",
-        case: Case::Decode(Input::Text(Decoding {
+        case: Case::DecodeStd(StdInput::Text(Decoding {
             setting: Standard,
             input: &[2, 97, 98, 99],
             answer: Answer::Value("ab", 3),
@@ -125,7 +125,7 @@ static MORE: [Row; 15] = [
     },
     Row {
         label: "map and more",
-        case: Case::Decode(Input::Map(Decoding {
+        case: Case::DecodeStd(StdInput::Map(Decoding {
             setting: Standard,
             input: &[1, 5, 6, 99],
             answer: Answer::Value(&[(5, 6)], 3),
