@@ -1,4 +1,3 @@
-use Rattle.std.proofs.Common.{rules}
 use Rattle.std.proofs.lemmas.Result.{err_from_is_err_and}
 use Rattle.std.specs.Io.Buffered.{reader_remaining}
 use Rattle.bincode_io.specs.Stream.{known_bytes}
@@ -62,11 +61,11 @@ returns-after-not-holds_frame-clause-takes g c = λ tells.
           (takes-flushed g.S.Service.replies g.S.Service.refusal_reply g.S.Request.Wire.words g.S.Reply.Wire.words g.C.Config.setting g.C.Config.bound c.args.most c.args.offset
           (known_bytes (reader_remaining g.R.Read.remaining c.args.input.now)) (g.S.Service.state c.args.service.now) (g.S.Service.state c.answer_frame.new.service)
           (known_bytes (reader_remaining g.R.Read.remaining c.next_from_stream.new.stream)) (g.W.Write.contents c.args.output.now) (g.W.Write.contents c.answer_frame.new.output)
-          (g.W.Write.contents w.flush-then-not-holds_frame.new.output) c.in-Ok-Record.size c.in-Ok-Record.content c.in-Ok-next.next next c.in_ok-answer_frame-in-Ok-Record.ensures.answered w.flush-then-not-holds_frame.ensures.kept (search rules) left)
+          (g.W.Write.contents w.flush-then-not-holds_frame.new.output) c.in-Ok-Record.size c.in-Ok-Record.content c.in-Ok.next next c.in_ok-answer_frame-in-Ok-Record.ensures.answered w.flush-then-not-holds_frame.ensures.kept c.in-Ok.ensures.sum left)
       | else-not-holds_frame w ↦
           rw w.output-is
           (takes-unflushed g.S.Service.replies g.S.Service.refusal_reply g.S.Request.Wire.words g.S.Reply.Wire.words g.C.Config.setting g.C.Config.bound c.args.most c.args.offset
           (known_bytes (reader_remaining g.R.Read.remaining c.args.input.now)) (g.S.Service.state c.args.service.now) (g.S.Service.state c.answer_frame.new.service)
           (known_bytes (reader_remaining g.R.Read.remaining c.next_from_stream.new.stream)) (g.W.Write.contents c.args.output.now) (g.W.Write.contents c.answer_frame.new.output)
-          c.in-Ok-Record.size c.in-Ok-Record.content c.in-Ok-next.next next c.in_ok-answer_frame-in-Ok-Record.ensures.answered (search rules) left)
+          c.in-Ok-Record.size c.in-Ok-Record.content c.in-Ok.next next c.in_ok-answer_frame-in-Ok-Record.ensures.answered c.in-Ok.ensures.sum left)
     ]
