@@ -43,15 +43,15 @@ const TEN_AT_56: u64 = 720_575_940_379_279_360;
 const TEN_AT_120: u128 = 13_292_279_957_849_158_729_038_070_602_803_445_760;
 
 /// Whether all of these bytes are decoded as this number.
-fn reads_number<T: Decode<()> + PartialEq + Copy, C: Config>(
+fn reads_number<T: Decode<()> + PartialEq, C: Config>(
     alloc: Global,
     config: C,
     input: &[u8],
-    number: T,
+    number: &T,
 ) -> bool {
     let read: Result<(T, usize), DecodeError> = decode_from_slice(alloc, input, config);
     match read {
-        Ok((value, taken)) => value == number && taken == input.len(),
+        Ok((value, taken)) => taken == input.len() && value == *number,
         Err(_) => false,
     }
 }
@@ -106,12 +106,12 @@ fn reads_unsigned_numbers(rt: HostRuntime) {
         &[
             (
                 "ten in eight bytes",
-                reads_number(alloc, little, &EIGHT, TEN_AT_56)
-                    && reads_number(alloc, little.with_big_endian(), &EIGHT, 10u64),
+                reads_number(alloc, little, &EIGHT, &TEN_AT_56)
+                    && reads_number(alloc, little.with_big_endian(), &EIGHT, &10u64),
             ),
             (
                 "ten in sixteen bytes",
-                reads_number(alloc, little, &SIXTEEN, TEN_AT_120),
+                reads_number(alloc, little, &SIXTEEN, &TEN_AT_120),
             ),
             ("a tag alone", misses(alloc, &[251], 2)),
             ("a tag and one byte", misses(alloc, &[251, 0], 1)),
@@ -121,13 +121,13 @@ fn reads_unsigned_numbers(rt: HostRuntime) {
 }
 
 /// Whether these bytes are decoded as a number, and the number encoded as them.
-fn keeps_number<T: Encode + Decode<()> + PartialEq + Copy, C: Config>(
+fn keeps_number<T: Encode + Decode<()> + PartialEq, C: Config>(
     alloc: Global,
     config: C,
-    number: T,
+    number: &T,
     encoding: &[u8],
 ) -> bool {
-    reads_number(alloc, config, encoding, number) && is_encoded(&number, encoding, config)
+    reads_number(alloc, config, encoding, number) && is_encoded(number, encoding, config)
 }
 
 #[test]
@@ -137,10 +137,10 @@ fn keeps_fixed_numbers_that_begin_above_250(rt: HostRuntime) {
     let big = config::legacy().with_big_endian();
     let eight = [253, 7, 6, 5, 4, 3, 2, 1];
     assert!(rt;
-        keeps_number(alloc, little, 0x0102_03FBu32, &[251, 3, 2, 1])
-            && keeps_number(alloc, big, 0xFC03_0201u32, &[252, 3, 2, 1])
-            && keeps_number(alloc, little, 0x0102_0304_0506_07FDu64, &eight)
-            && keeps_number(alloc, big, 0xFD07_0605_0403_0201u64, &eight)
+        keeps_number(alloc, little, &0x0102_03FBu32, &[251, 3, 2, 1])
+            && keeps_number(alloc, big, &0xFC03_0201u32, &[252, 3, 2, 1])
+            && keeps_number(alloc, little, &0x0102_0304_0506_07FDu64, &eight)
+            && keeps_number(alloc, big, &0xFD07_0605_0403_0201u64, &eight)
     );
 }
 
