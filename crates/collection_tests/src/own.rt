@@ -226,8 +226,8 @@ fn is_empty_enum<T: Drop>(outcome: Result<T, DecodeError>, name: &str) -> bool {
     type_name.as_str() == name
 }
 
-/// Whether the type, which can be written too, has no values: decoding in both ways within 0 fails with its name.
-fn has_no_values<'a, T: Encode + Decode<()> + BorrowDecode<&'a [u8], ()>>(
+/// Whether the type has no values: decoding in both ways within 0 fails with its name.
+fn has_no_values<'a, T: Decode<()> + BorrowDecode<&'a [u8], ()>>(
     alloc: Global,
     source: &'a [u8],
     name: &str,
