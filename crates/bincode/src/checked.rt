@@ -108,8 +108,9 @@ pub fn round_trip_within<T: Encode + Decode<()> + Exact + ConstantCharge, C: Con
     round_trip(alloc, value, slice, config)
 }
 
-/// Decodes a value from a slice, as `decode_from_slice` does. Under a limit the error is `LimitExceeded` exactly if the bytes need more; else the
-/// result is that without a limit. The limit bounds what is decoded: its bytes, and the elements of all that it holds.
+/// Decodes a value from a slice, as `decode_from_slice` does. Under a limit the error is `LimitExceeded` exactly if the
+/// bytes need more; else the result is that without a limit. The limit bounds what is decoded: its bytes, and the
+/// elements of all that it holds.
 pub fn read_within<T: Decode<()>, C: Config>(
     alloc: Global,
     src: &[u8],
