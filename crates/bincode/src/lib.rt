@@ -26,7 +26,7 @@ mod vec;
 mod window;
 mod writer;
 
-/// Encoding into memory that the call takes. `Encode`, `Decode` and `BorrowDecode` of the containers, texts and pointers
+/// Encoding into memory that the call takes. `Encode`, `Decode` and `BorrowDecode` of containers, texts and pointers
 /// of `std` are always there.
 pub mod alloc {
     pub use crate::vec::encode_to_vec;

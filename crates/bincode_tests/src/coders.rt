@@ -92,7 +92,7 @@ fn decodes_runs(rt: HostRuntime) {
     assert!(rt; reads_within_ten(rt.alloc()) || reads_within_ten(rt.alloc()));
 }
 
-/// Whether six of ten are claimed, and of the four that are left not five, but two once three are released; then nothing
+/// Whether six of ten are claimed, and of the four left not five, but two once three are released; then nothing
 /// more that passes what a counter holds, and the charge stays.
 fn claims_in_turn<D: Decoder<Context = ()>>(decoder: &mut D) -> bool {
     if decoder.claim_bytes_read(6).is_err() || !is_passed(decoder.claim_bytes_read(5)) {

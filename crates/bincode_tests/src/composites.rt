@@ -15,7 +15,7 @@ use std::ops::{Bound, Range, RangeInclusive};
 use std::time::Duration as StdDuration;
 use test_helpers::checks::{is_passed, keeps, read_front, refuses_tag, within};
 
-/// Tuples whose parts are of one type, by their length: the shortest, and those at which the parts are grouped in another
+/// Tuples whose parts are of one type, by their length: the shortest, and those whose parts are grouped in another
 /// way. The worked rows have those of two and of five parts, and a row below has the longest.
 type One<T> = (T,);
 

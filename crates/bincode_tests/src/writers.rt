@@ -1,4 +1,4 @@
-//! Writing into slices, and counting; and what a slice that is too short holds of fixed numbers, of which no clause says
+//! Writing into slices, and counting; and what too short a slice holds of fixed numbers, of which no clause says
 //! how many pieces are written.
 
 use crate::asserts::rows_hold;

@@ -1,4 +1,4 @@
-//! The tests of calls, over a service whose replies are of a generic enum: what is answered to frames of each kind, what
+//! The tests of calls, over a service whose replies are of a generic enum: what frames of each kind get, what
 //! a caller reads, and memory that is refused.
 #![tactic(auto)]
 

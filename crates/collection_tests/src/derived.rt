@@ -67,7 +67,7 @@ fn claims_its_tag(alloc: Global) -> bool {
         && matches!(below, Err(DecodeError::LimitExceeded))
 }
 
-/// `test_c_style_enum` of the original: the tags are the places, whatever numbers the variants have. Its error lists the
+/// `test_c_style_enum` of the original: the tags are the places, whatever numbers variants have. Its error lists the
 /// tags 0 to 4, and that of this library has their range, as for each enum with the tags from 0 on.
 #[test]
 fn keeps_tags_by_place_and_by_note(rt: HostRuntime) {

@@ -5,7 +5,7 @@ use crate::rows::Row;
 use crate::setting::{Legacy, Standard};
 use std::ops::Bound;
 
-/// Cases that the program leaves out: signed numbers of one byte, and encodings of each kind with other bytes after them.
+/// Cases that the program leaves out: signed numbers of one byte, and encodings of each kind with bytes after them.
 pub fn trailing_cases() -> &'static [Row] {
     &MORE
 }

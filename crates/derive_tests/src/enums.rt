@@ -296,7 +296,7 @@ enum Kind {
                 since.tell_valid();
             }
 =====
-// A note gives the tag, whatever stands after the `=`. Where there is no note the place does, and only the tag is claimed.
+// A note gives the tag, whatever stands after the `=`. Without a note the place does, and only the tag is claimed.
 #[derive(Clone, Copy)]
 enum Code {
     // bincode: tag 7

@@ -3,7 +3,7 @@
 use crate::sources::told;
 use test_helpers::peak::{is_within, peak};
 
-/// A text of 200,000 bytes: a window over it, and what is printed, take some bytes for each of them. Memory is asked for
+/// A text of 200,000 bytes: a window over it, and what is printed, take some bytes for each. Memory is asked for
 /// as it is read, and not at once.
 #[test]
 fn takes_memory_as_it_reads(rt: HostRuntime) -> anyhow::Result<()> {

@@ -2,7 +2,7 @@
 
 use std::fs;
 
-/// The greatest number of bytes that this process had mapped at once so far, as Linux tells it: what was reserved counts,
+/// The greatest number of bytes that this process had mapped at once so far, as Linux says: what was reserved counts,
 /// also where nothing was written to it. `None` where the system does not tell it. Retries once, since an allocation
 /// may be refused.
 pub fn peak(rt: &HostRuntime) -> Option<u64> {
