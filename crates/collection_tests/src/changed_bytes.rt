@@ -200,7 +200,7 @@ fn is_outcome_of(alloc: Global, row: &Row, place: usize, byte: u8, expected: Out
 fn first_unexpected(alloc: Global, row: &Row) -> Option<(&'static str, usize, u8)> {
     for (place, answers) in row.tags {
         let mut byte = 251u8;
-        for expected in answers {
+        for expected in answers.iter() {
             if !is_outcome_of(alloc, row, *place, byte, *expected) {
                 return Some((row.label, *place, byte));
             }

@@ -79,26 +79,26 @@ pub struct Row {
     pub label: &'static str,
     pub kind: Kind,
     pub encoding: &'static [u8],
-    pub tags: &'static [(usize, [Outcome; 5])],
+    pub tags: &'static [(usize, &'static [Outcome])],
 }
 
 /// The bytes of an IPv6 socket address: ::1 and the port 12345.
 const SOCKET: [u8; 19] = [0, 0, 0, 0, 0, 0, 0, 0, 0, 0, 0, 0, 0, 0, 0, 1, 251, 57, 48];
 
 /// A length whose bytes after a tag of 16, 32 or 64 bits are not all there, or not as many items as it says.
-const SHORT: [Outcome; 5] = [Ends, Ends, Ends, Wide(U64, U128), Wide(U64, Reserved)];
+const SHORT: &[Outcome] = &[Ends, Ends, Ends, Wide(U64, U128), Wide(U64, Reserved)];
 
 /// A length that is too great where it has 32 bits, and cut where it has 64.
-const LONG: [Outcome; 5] = [Ends, Passed, Ends, Wide(U64, U128), Wide(U64, Reserved)];
+const LONG: &[Outcome] = &[Ends, Passed, Ends, Wide(U64, U128), Wide(U64, Reserved)];
 
 /// The same, and too great where it has 64 bits.
-const LONGER: [Outcome; 5] = [Ends, Passed, Passed, Wide(U64, U128), Wide(U64, Reserved)];
+const LONGER: &[Outcome] = &[Ends, Passed, Passed, Wide(U64, U128), Wide(U64, Reserved)];
 
 /// The same, and too great where it has 16 bits.
-const LONGEST: [Outcome; 5] = [Passed, Passed, Passed, Wide(U64, U128), Wide(U64, Reserved)];
+const LONGEST: &[Outcome] = &[Passed, Passed, Passed, Wide(U64, U128), Wide(U64, Reserved)];
 
 /// A `u16` of three bytes.
-const SHORT_NUMBER: [Outcome; 5] = [
+const SHORT_NUMBER: &[Outcome] = &[
     Read(3),
     Wide(U16, U32),
     Wide(U16, U64),
@@ -107,7 +107,7 @@ const SHORT_NUMBER: [Outcome; 5] = [
 ];
 
 /// An `i16` of three bytes.
-const SHORT_SIGNED: [Outcome; 5] = [
+const SHORT_SIGNED: &[Outcome] = &[
     Read(3),
     Wide(I16, IntegerType::I32),
     Wide(I16, I64),
@@ -116,7 +116,7 @@ const SHORT_SIGNED: [Outcome; 5] = [
 ];
 
 /// A `u32` of three bytes.
-const THREE_BYTES: [Outcome; 5] = [
+const THREE_BYTES: &[Outcome] = &[
     Read(3),
     Ends,
     Wide(U32, U64),
@@ -125,7 +125,7 @@ const THREE_BYTES: [Outcome; 5] = [
 ];
 
 /// A byte that says which choice there is, of two, or the first byte of a fixed number that does.
-const NO_CHOICE: [Outcome; 5] = [
+const NO_CHOICE: &[Outcome] = &[
     NoVariant(251, 1),
     NoVariant(252, 1),
     NoVariant(253, 1),
@@ -134,7 +134,7 @@ const NO_CHOICE: [Outcome; 5] = [
 ];
 
 /// The tag of an address before 127, 0, 0, 1.
-const NO_ADDRESS: [Outcome; 5] = [
+const NO_ADDRESS: &[Outcome] = &[
     NoVariant(127, 1),
     NoVariant(16_777_343, 1),
     Wide(U32, U64),
@@ -174,7 +174,7 @@ pub static SCALARS: [Row; 23] = [
         encoding: &[253, 255, 255, 255, 255, 255, 255, 255, 255],
         tags: &[(
             0,
-            [
+            &[
                 Read(3),
                 Read(5),
                 Read(9),
@@ -195,7 +195,7 @@ pub static SCALARS: [Row; 23] = [
         encoding: &[254, 0, 0, 152, 98, 112, 179, 79, 49, 1, 0, 0, 0, 0, 0, 0, 0],
         tags: &[(
             0,
-            [Read(3), Read(5), Read(9), Read(17), Wide(I128, Reserved)],
+            &[Read(3), Read(5), Read(9), Read(17), Wide(I128, Reserved)],
         )],
     },
     Row {
@@ -240,7 +240,7 @@ pub static SCALARS: [Row; 23] = [
         encoding: &[252, 0, 0, 1, 0],
         tags: &[(
             0,
-            [
+            &[
                 Read(3),
                 Read(5),
                 Wide(U32, U64),
@@ -263,7 +263,7 @@ pub static SCALARS: [Row; 23] = [
         ],
         tags: &[(
             0,
-            [Read(3), Read(5), Read(9), Read(17), Wide(U128, Reserved)],
+            &[Read(3), Read(5), Read(9), Read(17), Wide(U128, Reserved)],
         )],
     },
     Row {
@@ -286,7 +286,7 @@ pub static SCALARS: [Row; 23] = [
         tags: &[
             (
                 0,
-                [
+                &[
                     Wide(U32, Reserved),
                     Read(10),
                     Read(10),
@@ -296,7 +296,7 @@ pub static SCALARS: [Row; 23] = [
             ),
             (
                 5,
-                [
+                &[
                     Read(8),
                     Read(10),
                     Wide(U32, U64),
@@ -313,7 +313,7 @@ pub static SCALARS: [Row; 23] = [
         tags: &[
             (
                 0,
-                [
+                &[
                     Read(4),
                     Read(6),
                     Read(12),
@@ -323,7 +323,7 @@ pub static SCALARS: [Row; 23] = [
             ),
             (
                 9,
-                [
+                &[
                     Read(12),
                     Ends,
                     Wide(U32, U64),
@@ -359,7 +359,7 @@ pub static WHOLES: [Row; 11] = [
         label: "1",
         kind: Kind::Five,
         encoding: &[0, 10, 251, 32, 78, 97, 0, 1, 2, 3],
-        tags: &[(2, [Read(10), Ends, Ends, Ends, Wide(I128, Reserved)])],
+        tags: &[(2, &[Read(10), Ends, Ends, Ends, Wide(I128, Reserved)])],
     },
     Row {
         label: "10b",
@@ -373,7 +373,7 @@ pub static WHOLES: [Row; 11] = [
         encoding: &[1, 251, 44, 1],
         tags: &[(
             1,
-            [
+            &[
                 Read(4),
                 Ends,
                 Wide(U32, U64),
@@ -388,7 +388,7 @@ pub static WHOLES: [Row; 11] = [
         encoding: &SOCKET,
         tags: &[(
             16,
-            [
+            &[
                 Read(19),
                 Wide(U16, U32),
                 Wide(U16, U64),
@@ -433,7 +433,7 @@ pub static WHOLES: [Row; 11] = [
         encoding: &[2, 7],
         tags: &[(
             0,
-            [
+            &[
                 Ends,
                 Ends,
                 Wide(U32, U64),
@@ -449,11 +449,11 @@ pub static WHOLES: [Row; 11] = [
         tags: &[
             (
                 1,
-                [Passed, Passed, Ends, Wide(U64, U128), Wide(U64, Reserved)],
+                &[Passed, Passed, Ends, Wide(U64, U128), Wide(U64, Reserved)],
             ),
             (
                 3,
-                [
+                &[
                     Read(6),
                     Wide(U16, U32),
                     Wide(U16, U64),
@@ -513,7 +513,7 @@ pub static LISTS: [Row; 10] = [
         label: "21c",
         kind: Kind::LegacyList,
         encoding: &[0, 0, 0, 0, 0, 0, 0, 0],
-        tags: &[(0, [Ends, Ends, Ends, Ends, Ends])],
+        tags: &[(0, &[Ends, Ends, Ends, Ends, Ends])],
     },
     Row {
         label: "24",
