@@ -21,6 +21,7 @@ pub use Rattle.bincode_spec.specs.NoZero
 pub use Rattle.bincode_spec.specs.Words
 pub use Rattle.bincode_spec.specs.Octets
 pub use Rattle.bincode_spec.specs.Forms
+pub use Rattle.bincode_spec.specs.Floats
 pub use Rattle.bincode_spec.specs.Allowed
 pub use Rattle.bincode_spec.specs.Choices
 pub use Rattle.bincode_spec.specs.Run

@@ -1,5 +1,6 @@
 -- What the proofs of this crate share, and those of crates above it.
 pub mod WrittenAs
+pub mod FloatAnswers
 pub mod DurationAnswers
 pub mod Rooms
 pub mod BytesAtOnce

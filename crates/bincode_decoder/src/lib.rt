@@ -1,5 +1,5 @@
-//! Decoders, and how integers, characters, `bool`, durations, octets, tags and texts are read through them. Functions
-//! charge and read in the order of docs/FORMAT.md, section 10. After an error the charges made before it stay.
+//! Decoders, and how integers, floats, characters, `bool`, durations, octets, tags and texts are read through them.
+//! Functions charge and read in the order of docs/FORMAT.md, section 10. After an error the charges made before it stay.
 #![tactic(auto)]
 
 pub mod borrow;
@@ -9,6 +9,7 @@ pub mod chars;
 pub mod context;
 pub mod decoder;
 pub mod empty;
+pub mod floats;
 pub mod integers;
 pub mod lengths;
 pub mod octets;

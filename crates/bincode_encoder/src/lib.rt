@@ -1,5 +1,5 @@
-//! Encoders, and how integers, characters, `bool`, octets, texts, lists, maps and enums are written through them. If
-//! the writer refuses a piece, the pieces before it stay written.
+//! Encoders, and how integers, floats, characters, `bool`, octets, texts, lists, maps and enums are written through
+//! them. If the writer refuses a piece, the pieces before it stay written.
 #![tactic(auto)]
 
 pub mod answers;
@@ -7,6 +7,7 @@ pub mod c_strings;
 pub mod cells;
 pub mod chars;
 pub mod encoder;
+pub mod floats;
 pub mod hashed;
 pub mod integers;
 pub mod lists;

@@ -1,6 +1,6 @@
 -- What kind of value a shape stands for.
 use Rattle.std.specs.Prelude.{◌≡◌, ℕ, zero, suc, Bool, true, false, List, [], ◌∷◌, Option, Some, None, length}
-use Rattle.bincode_spec.specs.Meaning.{Meaning, Truth, Number, Character, Bytes, Nothing, Then, Choice}
+use Rattle.bincode_spec.specs.Meaning.{Meaning, Truth, Number, Real, Character, Bytes, Nothing, Then, Choice}
 use Rattle.bincode_shape.specs.declared.shape.Shape as shapes
 use Rattle.bincode_shape.specs.declared.shape.Shape.{Shape, items-the_row-Shape}
 use Rattle.bincode_evolution.specs.Rules.{has_words, is_read}
@@ -9,6 +9,7 @@ use Rattle.bincode_base.specs.declared.config.IntEncoding.{IntEncoding}
 pub data Kind : Type 0 where
   OfTruth : Kind
   OfNumber : Kind
+  OfReal : Kind
   OfCharacter : Kind
   OfText : Kind
   OfRow : Kind
@@ -18,6 +19,7 @@ pub data Kind : Type 0 where
 abbrev pub kind : Meaning → Kind
 kind (Truth b) = OfTruth
 kind (Number z) = OfNumber
+kind (Real v) = OfReal
 kind (Character c) = OfCharacter
 kind (Bytes bytes) = OfText
 kind Nothing = OfRow

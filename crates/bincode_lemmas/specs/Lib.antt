@@ -16,6 +16,7 @@ pub mod DurationLaws
 pub mod EncodingLaws
 pub mod EqualLaws
 pub mod FormatLaws
+pub mod FloatLaws
 pub mod FormLaws
 pub mod Fronts
 pub mod IntegerLaws

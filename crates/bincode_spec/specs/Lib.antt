@@ -9,6 +9,7 @@ pub mod NoZero
 pub mod Words
 pub mod Octets
 pub mod Forms
+pub mod Floats
 pub mod Allowed
 pub mod Choices
 pub mod Room

@@ -1,9 +1,12 @@
 -- What words mean, whatever the Rust type: one type for all.
 use Rattle.std.specs.Prelude.{◌≡◌, ℕ, ℤ, Bool, List, [], ◌∷◌}
+use Rattle.std.specs.Float.{Float}
 
 pub data Meaning : Type 0 where
   Truth : Bool → Meaning
   Number : ℤ → Meaning
+  -- a float of either format, of which every NaN is one
+  Real : Float → Meaning
   Character : ℕ → Meaning
   Bytes : List ℕ → Meaning
   -- the empty list, and a first item before the others
@@ -24,6 +27,10 @@ IsTruth b m = m ≡ Truth b
 -- it is this number
 abbrev pub IsNumber : ℤ → Meaning → Type 0
 IsNumber z m = m ≡ Number z
+
+-- it is this float
+abbrev pub IsReal : Float → Meaning → Type 0
+IsReal v m = m ≡ Real v
 
 -- it is this character
 abbrev pub IsCharacter : ℕ → Meaning → Type 0

@@ -36,6 +36,8 @@ mod faults;
 #[cfg(test)]
 mod files;
 #[cfg(test)]
+mod floats;
+#[cfg(test)]
 mod halts;
 #[cfg(test)]
 mod hashed;

@@ -8,6 +8,7 @@ pub mod calls;
 pub mod claims;
 pub mod cut;
 pub mod fixed;
+pub mod floats;
 pub mod formats;
 pub mod limits;
 pub mod longer;

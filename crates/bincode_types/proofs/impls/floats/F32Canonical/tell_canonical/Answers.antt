@@ -1,0 +1,8 @@
+use Rattle.std.specs.Float.{binary32}
+use Rattle.bincode_spec.specs.Floats.{floats}
+use Rattle.bincode_lemmas.specs.FloatLaws.{floats-laws}
+use Rattle.bincode_types.proofs.FormWords.{form-canonical}
+use Rattle.bincode_types.proofs.impls.floats.F32Canonical.tell_canonical.Goals as goal
+
+pub returns : goal.returns
+returns c = form-canonical (floats binary32 (λ v. v)) (floats-laws binary32 (λ v. v)) 4

@@ -1,0 +1,8 @@
+use Rattle.std.specs.Float.{binary32}
+use Rattle.bincode_spec.specs.Floats.{floats}
+use Rattle.bincode_lemmas.specs.FloatLaws.{floats-laws}
+use Rattle.bincode_types.proofs.FormWords.{form-inhabited}
+use Rattle.bincode_types.proofs.impls.floats.F32Inhabited.tell_inhabited.Goals as goal
+
+pub returns : goal.returns
+returns c = form-inhabited (floats binary32 (λ v. v)) (floats-laws binary32 (λ v. v)) 4

@@ -1,0 +1,4 @@
+use Rattle.bincode_types.proofs.impls.floats.F64Writable.tell_writable.Goals as goal
+
+pub returns : goal.returns
+returns c = λ s v h. tt
