@@ -3,6 +3,7 @@
 use crate::asserts::all_true;
 use bincode::error::DecodeError;
 use derived_types::enums::Figure;
+use derived_types::floats::{Levels, Place, Reading};
 use derived_types::lent::Word;
 use derived_types::packets::Packet;
 use derived_types::replies::Reply;
@@ -11,7 +12,7 @@ use derived_types::tags::{CStyleEnum, Mixed};
 use derived_types::turns::Turn;
 use std::alloc::Global;
 use test_helpers::checks::{
-    borrowed, either, fault_of, fills, keeps, read_word, refuses_tag, within,
+    borrowed, either, fault_of, fills, is_passed, keeps, read_word, refuses_tag, within,
 };
 
 #[test]
@@ -28,6 +29,40 @@ fn keeps_structs_and_enums(rt: HostRuntime) {
             keeps::<Mixed>(alloc, &[2]),
             keeps::<Turn>(alloc, &[4, 251, 44, 1, 0, 255]),
             keeps::<Reply<bool>>(alloc, &[2, 251, 148, 1, 0]),
+        ],
+    );
+}
+
+/// A place at 1, -2 and 1.5, a reading of -2, and one level of 1.5, reached 300 times, with 1 as the least.
+const PLACE: [u8; 16] = [
+    0, 0, 0x80, 0x3F, 0, 0, 0, 0xC0, 0, 0, 0, 0, 0, 0, 0xF8, 0x3F,
+];
+
+const READING: [u8; 9] = [1, 0, 0, 0, 0, 0, 0, 0, 0xC0];
+
+const LEVELS: [u8; 16] = [
+    1, 0, 0, 0, 0, 0, 0, 0xF8, 0x3F, 251, 44, 1, 0, 0, 0x80, 0x3F,
+];
+
+#[test]
+fn keeps_what_holds_floats(rt: HostRuntime) {
+    let alloc = rt.alloc();
+    let place = Place {
+        x: 1.0,
+        y: -2.0,
+        height: 1.5,
+    };
+    all_true(
+        &rt,
+        &[
+            keeps::<Place>(alloc, &PLACE) && read_word(alloc, &PLACE) == Some(place),
+            keeps::<Reading>(alloc, &[0]),
+            keeps::<Reading>(alloc, &READING)
+                && read_word(alloc, &READING) == Some(Reading::At(-2.0)),
+            keeps::<Reading>(alloc, &[2, 0, 0, 0, 0, 0, 0, 0, 0x80]),
+            keeps::<Levels>(alloc, &LEVELS),
+            within::<Place, 16>(alloc, &PLACE).is_ok(),
+            is_passed(within::<Place, 15>(alloc, &PLACE)),
         ],
     );
 }

@@ -10,6 +10,11 @@ const LEFT_OUT: &str = "\
 u64 -> nothing
 NonZeroU8 -> nothing
 char -> nothing
+f32 -> Exact
+Vec<Option<f64>> -> Exact
+OrderedFloat<f32> -> nothing
+BTreeMap<OrderedFloat<f64>, std::cmp::OrderedFloat<f32>> -> nothing
+BTreeMap<OrderedFloat<f64>, f32> -> Exact
 (u8, [bool; 2]) -> nothing
 Option<String> -> nothing
 Result<(), CString> -> nothing

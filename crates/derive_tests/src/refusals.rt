@@ -275,9 +275,9 @@ refused 2:6: A is an enum with a type parameter, and a lifetime or a note that a
     enum for each type that you have
 =====
 #[derive(Drop)]
-struct A(u8, Vec<f64>);
+struct A(u8, Vec<Weak<u8>>);
 -----
-refused 2:18: the library has no words for `f64`: hold its bits, as a `u64`
+refused 2:18: the library has no words for `Weak`: hold a number that names the value
 =====
 #[derive(Drop)]
 struct A(&'static str);
@@ -299,9 +299,15 @@ refused 2:14: the library has no words for `&`: only `&str` and `&[u8]` are read
     `Vec`
 =====
 #[derive(Drop)]
-struct A(Option<f32>);
+struct A(BTreeMap<u8, HashSet<(f32, u8)>>);
 -----
-refused 2:17: the library has no words for `f32`: hold its bits, as a `u32`
+refused 2:32: `f32` is no key, since a NaN is not equal to itself: take an `OrderedFloat<f32>` of `std::cmp`
+=====
+// bincode: with Described
+#[derive(Drop)]
+struct A(Option<f64>);
+-----
+refused 3:8: A holds a float, which has no shape: take `Described` away
 =====
 #[derive(Drop)]
 struct A(u8, std::time::SystemTime);
@@ -331,9 +337,9 @@ refused 2:10: the library has no words for `fn`: hold a value of a type with a n
 #[derive(Drop)]
 struct A(u8);
 #[derive(Drop)]
-struct C(f32);
+struct C(RwLock<u8>);
 -----
-refused 4:10: the library has no words for `f32`: hold its bits, as a `u32`
+refused 4:10: the library has no words for `RwLock`: hold the value, and lock the whole
 =====
 #[derive(Drop)]
 struct Instant(u64);

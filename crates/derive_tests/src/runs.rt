@@ -222,7 +222,7 @@ src/b/words.rt: up to date
 const FAILURES: &str = "\
 put src/a.rt
 #[derive(Clone, Copy)]
-struct A(f64);
+struct A(Instant);
 -----
 =====
 put src/b.rt
@@ -235,14 +235,14 @@ run --check src/a.rt src/b.rt
 2
 src/b/words.rt: missing: run `derive src/b.rt`
 --
-derive: src/a.rt:2:10: the library has no words for `f64`: hold its bits, as a `u64`
+derive: src/a.rt:2:10: the library has no words for `Instant`: hold a `Duration` or a number
 =====
 run src/a.rt src/gone.rt src/b.rt
 -----
 2
 src/b/words.rt: written
 --
-derive: src/a.rt:2:10: the library has no words for `f64`: hold its bits, as a `u64`
+derive: src/a.rt:2:10: the library has no words for `Instant`: hold a `Duration` or a number
 derive: src/gone.rt: No such file or directory (os error 2)
 =====
 list

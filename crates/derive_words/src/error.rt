@@ -71,6 +71,14 @@ pub const GENERIC_ENUM: &str =
 /// The library has no words for a type.
 pub const NO_WORDS: &str = "the library has no words for `$word$`: $instead$";
 
+/// A float is the key of a set or a map.
+pub const FLOAT_KEY: &str =
+    "`$word$` is no key, since a NaN is not equal to itself: take an `OrderedFloat<$word$>` of \
+    `std::cmp`";
+
+/// A described type holds a float.
+pub const NO_SHAPE: &str = "$word$ holds a float, which has no shape: take `Described` away";
+
 /// A type may not be let go.
 pub const NOT_DROPPABLE: &str = "$word$ is neither `Drop` nor `Copy`: derive `Drop`";
 

@@ -114,7 +114,7 @@ fn fixed_size(of: &[Token<'_>]) -> Option<u32> {
 const SIZES: [(&str, u32); 5] = [
     ("u8 i8 bool", 1),
     ("u16 i16", 2),
-    ("u32 i32 char", 4),
-    ("u64 i64 usize isize", 8),
+    ("u32 i32 char f32", 4),
+    ("u64 i64 usize isize f64", 8),
     ("u128 i128", 16),
 ];

@@ -1,7 +1,7 @@
 //! Which laws a type keeps, by the names that stand in the types of its fields.
 
 use crate::cursor::depth_in_type;
-use crate::items::{Item, Source};
+use crate::items::{Field, Item, Source};
 use crate::text::text_at;
 use crate::tokens::{Token, is_listed};
 
@@ -46,10 +46,33 @@ fn first_keeps(source: &Source<'_>, item: &Item<'_>) -> Keeps {
     let has_values = marks.is_skipped || !item.variants.is_empty();
     Keeps {
         plain: !marks.without.plain,
-        exact: has_values && source.is_comparable(item) && !marks.without.exact,
+        exact: has_values
+            && source.is_comparable(item)
+            && !marks.without.exact
+            && !holds_float(item.fields.as_slice()),
         canonical: !marks.without.canonical,
         is_lent: marks.with.borrow_decode,
     }
+}
+
+/// Whether a field holds a float that is not ordered. A NaN is not equal to itself, so what holds one is not exact.
+fn holds_float(fields: &[Field<'_>]) -> bool {
+    for field in fields.iter() {
+        if float_in(field.of).is_some() {
+            return true;
+        }
+    }
+    false
+}
+
+/// The first float in a type that is not that of an `OrderedFloat`.
+fn float_in<'t>(of: &[Token<'t>]) -> Option<Token<'t>> {
+    for (at, token) in of.iter().enumerate() {
+        if is_listed(token.text, "f32 f64") && text_at(of, at.saturating_sub(2)) != "OrderedFloat" {
+            return Some(*token);
+        }
+    }
+    None
 }
 
 /// What a type keeps, if those that it holds keep what they say.
@@ -133,17 +156,40 @@ const KEYED: &str = "BTreeMap BTreeSet HashMap HashSet";
 
 /// Whether all that stands in the key of the set or map at this place is exact.
 fn is_exact_key(source: &Source<'_>, of: &[Token<'_>], at: usize) -> bool {
-    let mut depth = 0u64;
-    for word in of.iter().skip(at.saturating_add(1)) {
-        depth = depth_in_type(depth, word.text);
-        if depth == 0 || depth == 1 && word.text == "," {
-            return true;
-        }
+    for word in key_at(of, at) {
         if !keeps_of(source, word.text).exact {
             return false;
         }
     }
     true
+}
+
+/// The tokens of the key of the set or map at this place, with the bracket before it.
+fn key_at<'a, 't>(of: &'a [Token<'t>], at: usize) -> &'a [Token<'t>] {
+    let start = at.saturating_add(1);
+    let mut depth = 0u64;
+    let mut end = start;
+    for word in of.iter().skip(start) {
+        depth = depth_in_type(depth, word.text);
+        if depth == 0 || depth == 1 && word.text == "," {
+            break;
+        }
+        end = end.saturating_add(1);
+    }
+    of.get(start..end).unwrap_or_default()
+}
+
+/// The first float in the key of a set or a map of a type, if it is not that of an `OrderedFloat`.
+pub fn float_key_in<'t>(of: &[Token<'t>]) -> Option<Token<'t>> {
+    for at in 0..of.len() {
+        if is_listed(text_at(of, at), KEYED) {
+            let float = float_in(key_at(of, at));
+            if float.is_some() {
+                return float;
+            }
+        }
+    }
+    None
 }
 
 /// Whether a type of the source that is decoded by borrowing holds this one.

@@ -1,13 +1,13 @@
 //! What is refused of a type that was read.
 
 use crate::error::{
-    GENERIC_ENUM, HOLDS_ITSELF, NOT_DESCRIBED, NOT_DROPPABLE, Refusal, SAME_PART, TAKEN_NAME,
-    TWO_LIFETIMES,
+    FLOAT_KEY, GENERIC_ENUM, HOLDS_ITSELF, NO_SHAPE, NOT_DESCRIBED, NOT_DROPPABLE, Refusal,
+    SAME_PART, TAKEN_NAME, TWO_LIFETIMES,
 };
 use crate::facts::is_in_order;
 use crate::heads::is_by_variants;
 use crate::items::{Item, Source, Variant};
-use crate::laws::is_among;
+use crate::laws::{float_key_in, is_among};
 use crate::names::is_own_name;
 use crate::parts::lone_param;
 use crate::text::text_at;
@@ -145,12 +145,19 @@ fn is_part_of_longer(source: &Source<'_>, name: &str, variant: &str) -> bool {
 /// What the library has no words for in the types of the fields.
 fn refused_type<'t>(source: &Source<'t>, item: &Item<'t>) -> Option<Refusal<'t>> {
     for field in item.fields.iter() {
-        let refusal = refused_in(source, field.of, item.is_borrowing());
+        let refusal = refused_in(source, field.of, item.is_borrowing())
+            .or(refused_key(field.of));
         if refusal.is_some() {
             return refusal;
         }
     }
     None
+}
+
+/// Refuses a float as the key of a set or a map.
+fn refused_key<'t>(of: &[Token<'t>]) -> Option<Refusal<'t>> {
+    let float = float_key_in(of)?;
+    Some(Refusal::new(float.place, FLOAT_KEY, float.text))
 }
 
 /// What the library has no words for in a type.
@@ -214,8 +221,6 @@ const NO_WORDS_FOR: &str = "\
 *: hold the value
 Self: hold items in a `Vec`, and name them by index
 CStr: hold a `CString`
-f32: hold its bits, as a `u32`
-f64: hold its bits, as a `u64`
 Instant SystemTime: hold a `Duration` or a number
 AtomicBool AtomicU8 AtomicU16 AtomicU32 AtomicU64 AtomicUsize: hold the value
 AtomicI8 AtomicI16 AtomicI32 AtomicI64 AtomicIsize: hold the value
@@ -277,6 +282,8 @@ fn refused_whole<'t>(
 ) -> Option<Refusal<'t>> {
     if item.marks.with.described && !may_be_described(item) {
         said_of(item, NOT_DESCRIBED)
+    } else if item.marks.with.described && (item.says("f32") || item.says("f64")) {
+        said_of(item, NO_SHAPE)
     } else if !source.is_droppable(item) {
         said_of(item, NOT_DROPPABLE)
     } else if holds_itself {

@@ -2,6 +2,7 @@
 #![tactic(auto)]
 
 pub mod enums;
+pub mod floats;
 pub mod lent;
 pub mod packets;
 pub mod replies;
