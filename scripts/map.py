@@ -28,7 +28,8 @@ def sentence(text, path):
     found = re.match(r'(.*?\.)(?= [A-Z`(]| docs/|$)', ' '.join(text.split()))
     if not found:
         sys.exit(f'{path}: its head does not begin with a sentence')
-    return re.sub(r' \(docs/\w+\.md[^)]*\)', '', found.group(1))
+    text = re.sub(r' \(docs/\w+\.md[^)]*\)', '', found.group(1))
+    return re.sub(r'(?<![\w`/.])[\w/]+\.(?:py|json|rt|rs)\b(?!`)', r'`\g<0>`', text)
 
 
 def head_of_module(path):
