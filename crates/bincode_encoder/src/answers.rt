@@ -1,4 +1,4 @@
-//! Results that are rebuilt for speed.
+//! Results that are rebuilt, for speed.
 ghost use Rattle.std.specs.Prelude.{◌≡◌};
 
 use bincode_base::error::EncodeError;

@@ -1,4 +1,4 @@
-//! One check of the room for a whole value.
+//! One check of the capacity for a whole value.
 ghost use Rattle.std.specs.Prelude.{◌≡◌, ◌+◌, ◌^◌, ◌<◌, ℕ, List, length, max, true, Some, IfSome};
 ghost use Rattle.bincode_spec.specs.Device.{WithinRoom};
 
