@@ -1,4 +1,4 @@
-//! Encodings of the worked rows: cut at each place, and with another first byte of a number, a length or a tag.
+//! Encodings of the test vectors: cut at each place, and with another first byte of a number, a length or a tag.
 
 use crate::encodings::Outcome::{Ends, NoVariant, Passed, Read, Wide};
 use crate::encodings::{Kind, LISTS, Outcome, Row, SCALARS, WHOLES};

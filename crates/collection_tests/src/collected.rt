@@ -1,4 +1,4 @@
-//! Lists of one's own in arenas.
+//! User-defined lists in arenas.
 
 use crate::asserts::all_hold;
 use bincode::config::{self, Config};

@@ -1,4 +1,4 @@
-//! Encodings of the worked rows, and what is expected where the first byte of a number, a length or a tag is another.
+//! Encodings of the test vectors, and what is expected where the first byte of a number, a length or a tag is another.
 
 use self::Outcome::{Ends, NoVariant, Passed, Read, Wide};
 use bincode::error::IntegerType;

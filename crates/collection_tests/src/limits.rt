@@ -1,4 +1,4 @@
-//! What lists claim of a limit and when, and room that cannot be.
+//! What lists claim of a limit and when, and capacities that cannot be.
 
 use crate::asserts::all_hold;
 use bincode::config;

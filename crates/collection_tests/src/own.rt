@@ -1,4 +1,4 @@
-//! Types of one's own, written and read.
+//! User-defined types, written and read.
 
 use crate::asserts::{all_hold, all_true};
 use bincode::checked::{RoundTrip, round_trip};

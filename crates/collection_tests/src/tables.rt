@@ -1,4 +1,4 @@
-//! The tables of worked rows by the calls for slices, for streams and for shapes.
+//! The tables of test vectors by the calls for slices, for streams and for shapes.
 
 use crate::broken::Broken;
 use crate::by_shape::ByShape;

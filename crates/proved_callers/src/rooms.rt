@@ -1,4 +1,4 @@
-//! Writing to any writer within its room.
+//! Writing to any writer within its capacity.
 ghost use Rattle.std.specs.Prelude.{ℕ, List, OnOk, IfErr};
 ghost use Rattle.bincode_spec.specs.Allowed.{AllowedWord};
 ghost use Rattle.bincode_spec.specs.Device.{WithinRoom, WriterFails};

@@ -1,4 +1,4 @@
-//! Snapshots: a state in bytes, with the number of commands that it stands for and a digest.
+//! Snapshots: a state in bytes, with the number of commands up to it and a digest.
 ghost use Rattle.std.specs.Prelude.{◌≡◌, ◌<◌, ◌^◌, ◌++◌, ℕ, ◌↔◌, length, true, IsTrue, IfErr, IfOk, MatchResult};
 ghost use Rattle.std.specs.Int.{w64, to_le_bytes};
 ghost use Rattle.sha2.specs.Sha256.{sha256};
