@@ -34,7 +34,7 @@ WORDS = [
     (r'rooms?', 'capacity, space'),
     (r'torn', 'truncated'),
     (r'from nothing', 'clean'),
-    (r'(?:by|in|of) (?:its|their) parts', 'by its fields'),
+    (r'by (?:its|their) parts', 'by its fields'),
     (r'unless (?:the )?memory (?:is|was) refused', 'or fails with `Memory`'),
     (r'kits?', 'toolchain'),
     (r'worked rows?', 'test vectors'),
