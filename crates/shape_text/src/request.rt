@@ -113,7 +113,7 @@ Changes of a type:
   NEW, as the same values. --config, --fixed and --big-endian choose one setting; without them it
   tells of all four. Where a file is not read, it shows bytes of OLD that NEW does not read as the
   same, and where the shapes differ: parts and variants are counted from 0. It is told by the rules
-  of docs/FORMAT.md, section 16. No limit is looked at: under one, NEW may need a larger one.
+  of docs/SHAPES.md, section 4. No limit is looked at: under one, NEW may need a larger one.
 
   @FILE in place of a shape is a file that holds its text. describe --reads - tells of the shapes in
   the lines of the standard input, each NEW before its OLD.
