@@ -57,20 +57,23 @@ BEGINNINGS = (
     r'Else|Otherwise|Not|No|Then|Only|Both|All|Each|Most)')
 
 VERBS = """
-accept add admit agree allocate allow answer apply ask assert assume avoid base bear become begin believe belong
-borrow bound break build call cause change charge check choose cite claim close come compare compile concern consider
-consist contain continue copy correspond cost count cover create cut damage decide decode define delete depend derive
-describe design detect determine differ double drop encode end ensure equal exceed exclude exist expand expect explain
-export express extend fail fall feed fill find finish fit fix flip flush follow forbid forget form format free gain
-generate get give go grow handle happen hash help hide hold hope identify ignore implement imply import include
-increase indicate inline insert inspect interpret involve keep know lack lead learn leave let lie limit link list live
-load lock look lose make mark match matter mean measure meet merge move name need note number occur offer omit open
-order overflow own panic parse pass pay permit pick place prevent print produce promise prove provide publish put
-quote raise reach read receive reckon recommend record recover reduce refer refuse reject release rely remain remove
-rename repair repeat replace report represent require reserve resolve rest restore result resume return rewrite round
-run save say see seem select send separate serve set share show skip sort specify spell split stand start state stay
-step stop store stream suffice sum support suppose take tell terminate test throw time touch track treat trigger try
-turn type understand use validate vary verify wait want warn work wrap write yield
+accept add admit agree allocate allow answer append apply ask assert assume avoid base bear become begin believe
+belong borrow bound break build call cause change charge check choose cite claim close come compare compile concern
+connect consider consist contain continue copy correspond cost count cover create cross cut damage decide decode
+define delete deliver depend derive describe design detect determine differ double drop encode end ensure equal exceed
+exclude exist exit expand expect explain export express extend extract fail fall feed fill find finish fit fix flip
+flush follow forbid forget form format free gain generate get give go grant grow hand handle happen hash help hide
+hold hope identify ignore implement imply import include increase indicate inherit inline insert inspect interpret
+involve join jump keep know lack lead learn leave let lie limit link list live load lock look lose make map mark match
+matter mean measure meet merge move multiply name need note number occur offer omit open order overflow own pad panic
+parse pass pay peek permit pick place poll pop prevent print produce promise prove provide publish push put query
+quote raise rank reach read rebuild receive reckon recommend record recover recurse reduce refer refuse reject release
+rely remain remove rename repair repeat replace report represent require reserve resolve rest restore result resume
+retry return rewrite roll round run sample save say scan see seed seek seem select send separate serve set settle
+share shift show sign sit skip sleep snap sort span spawn specify spell split stand start state stay step stop store
+stream suffice sum support suppose swap switch sync tag take tell terminate test throw time touch track treat trigger
+trim trust try turn type understand unwrap update use validate vary verify visit vote wait want warn work wrap write
+yield zero
 """.split()
 
 OTHER_VERBS = """
@@ -98,7 +101,7 @@ FINITE = set(OTHER_VERBS).union(*(forms(verb) for verb in VERBS))
 # After these a word is a noun or an infinitive; after some, one in -s may be a verb, or one that is not.
 BEFORE_NOUNS = set("""
 the of in on at by to from for with without as per no any its their his your our my same own only first last next more
-than or like under over within beyond beside between into and
+than like under over within beyond beside between into
 """.split())
 BEFORE_ONE = {'a', 'an', 'each', 'every', 'one', 'this', 'that'}
 BEFORE_MANY = {'all', 'both', 'most', 'some', 'such', 'these', 'those', 'two', 'three', 'four', 'other'}
