@@ -58,23 +58,30 @@ BEGINNINGS = (
     r'Else|Otherwise|Not|No|Then|Only|Both|All|Each|Most)')
 
 VERBS = """
-accept add admit agree allocate allow answer append apply ask assert assume avoid base bear become begin believe
-belong borrow bound break build call cause change charge check choose cite claim close come compare compile concern
-connect consider consist contain continue copy correspond cost count cover create cross cut damage decide decode
-define delete deliver depend derive describe design detect determine differ double drop encode end ensure equal exceed
-exclude exist exit expand expect explain export express extend extract fail fall feed fill find finish fit fix flip
-flush follow forbid forget form format free gain generate get give go grant grow hand handle happen hash help hide
-hold hope identify ignore implement imply import include increase indicate inherit inline insert inspect interpret
-involve join jump keep know lack lead learn leave let lie limit link list live load lock look lose make map mark match
-matter mean measure meet merge move multiply name need note number occur offer omit open order overflow own pad panic
-parse pass pay peek permit pick place poll pop prevent print produce promise prove provide publish push put query
-quote raise rank reach read rebuild receive reckon recommend record recover recurse reduce refer refuse reject release
-rely remain remove rename repair repeat replace report represent require reserve resolve rest restore result resume
-retry return rewrite roll round run sample save say scan see seed seek seem select send separate serve set settle
-share shift show sign sit skip sleep snap sort span spawn specify spell split stand start state stay step stop store
-stream suffice sum support suppose swap switch sync tag take tell terminate test throw time touch track treat trigger
-trim trust try turn type understand unwrap update use validate vary verify visit vote wait want warn work wrap write
-yield zero
+accept add admit agree allocate allow answer append apply arise arrive ascend ask assert assume attach avoid await
+balance base bear become begin believe belong benefit borrow bound break bring build calculate call cause change
+charge check choose cite claim clear close collect combine come commit compare compile complete compute concern
+confirm connect consider consist construct contain continue convert copy correct correspond cost count cover create
+cross cut damage decide decline decode define delete deliver deny depend derive descend describe design destroy detect
+determine differ discard display distinguish divide double drop emit enable encode end enforce ensure enter equal
+establish evaluate examine exceed exclude execute exist exit expand expect explain export express extend extract fail
+fall feed fetch fill find finish fit fix flip flush focus follow forbid force forget form format free gain generate
+get give go grant grow guarantee guard hand handle happen hash help hide hold hope identify ignore implement imply
+import include increase indicate inform inherit initialize inline insert inspect install interpret introduce invoke
+involve iterate join judge jump justify keep know lack lead learn leave lengthen let lie limit link list live load
+lock look lose make map mark match matter mean measure meet mention merge miss mix modify move multiply name narrow
+need negate note notice number obey observe obtain occur offer omit open operate order outlive overflow overwrite own
+pad panic parse pass pay peek permit pick pin place poll pop possess preserve prevent print proceed process produce
+promise propagate protect prove provide publish push put query quote raise rank reach read rebuild receive reckon
+recognize recommend record recover recurse redo reduce refer reflect refuse reject release rely remain remember remove
+rename render reorder repair repeat replace report represent require reserve reset resolve rest restore result resume
+retain retry return reuse reveal reverse revise rewrite roll round run sample satisfy save say scan search see seed
+seek seem select send separate serve set settle share shift shorten show sign simplify sit skip sleep snap solve sort
+span spawn speak specify spell spend split stand start state stay steal step stop store stream succeed suffice suggest
+sum supply support suppose suppress surround suspend swap switch sync tag take tell terminate test think throw time
+touch track transfer translate treat trigger trim trust try turn type understand undo unify unlock unwrap update
+upgrade use validate vary verify view violate visit vote wait wake walk want warn watch weigh win witness work wrap
+write yield zero
 """.split()
 
 OTHER_VERBS = """
@@ -198,6 +205,7 @@ def has_verb(tokens):
         is_pronoun = before.isalpha() and before not in BEFORE_NOUNS | FINITE
         if word in CLAUSES and index > 1 and (word != 'that' or is_pronoun):
             open_clauses += 1
+            word = ''
         elif may_be_verb(word, before):
             if open_clauses == 0:
                 return True
