@@ -45,6 +45,7 @@ ALLOWED = [
     ('', r"words? (?:of|on|in) (?:a|the|its|their) command lines?|command[- ]line words?", 'a word of a command line'),
     ('', r'in other words|key ?words?|machine words?|[\d,]+ words', 'plain English'),
     ('', r'stands? (?:alone|out)', 'plain English'),
+    ('', r'\*words?\*', 'the term of the definitions, where a page introduces it'),
     ('bench/toolchain/README.md', r'## room', 'the name of a function'),
     ('crates/stock_files/src/request.rt', r'words separated by', 'the words of a line of input'),
     ('crates/derive_words/src/answers.rt', r'(?s).+', 'paths and names in the code that `derive` writes'),
