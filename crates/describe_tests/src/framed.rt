@@ -49,8 +49,8 @@ fn tells_frames_apart(rt: HostRuntime) {
         "{\"offset\":0,\"length\":9,\"undecodable\":\"LimitExceeded\"}\n",
         "damaged",
     );
-    let above = "at byte 9: a frame of length 1114115, and at most 1048576 is allowed";
-    let above_two = "at byte 9: a frame of length 3, and at most 2 is allowed";
+    let above = "at byte 9: the frame's length of 1114115 is above 1048576";
+    let above_two = "at byte 9: the frame's length of 3 is above 2";
     all_told(
         &rt,
         rt.alloc(),
@@ -127,7 +127,7 @@ fn joins_damaged_frames(rt: HostRuntime) {
     let torn = "truncated at byte 100000: the input ends within a frame";
     let before = "{\"offset\":100000,\"length\":9,\"value\":7}\n\
         {\"offset\":100009,\"length\":16,\"damaged\":2}\ndamaged";
-    let ones = "at byte 0: a frame of length 4294967295, and at most 1048576 is allowed";
+    let ones = "at byte 0: the frame's length of 4294967295 is above 1048576";
     assert!(rt;
         tells_after_zeros(alloc, &[], (ZEROS, "damaged"))
             && tells_after_zeros(alloc, &[0], (ZEROS, torn))

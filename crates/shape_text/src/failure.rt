@@ -36,7 +36,7 @@ pub enum DescribeError {
         offset: u64,
     },
     /// The frame at this offset has a length above the greatest. Where the next one begins is not known.
-    #[error("at byte {offset}: a frame of length {length}, and at most {longest} is allowed")]
+    #[error("at byte {offset}: the frame's length of {length} is above {longest}")]
     TooLong {
         offset: u64,
         length: u32,

@@ -105,8 +105,8 @@ Output:
   An encoding of more values than are printed has \"values\":N in place of \"value\".
 
   With --frames, offset and length are those of the frame. In place of \"value\" there is
-  \"undecodable\":WHY where the frame holds no encoding, or \"longer\":BYTES where bytes follow one in
-  it. Damaged frames in a row share a line, with \"damaged\":COUNT and the bytes of all.
+  \"undecodable\":WHY where its content begins with no encoding, or \"longer\":BYTES where bytes follow
+  one. Damaged frames in a row share a line, with \"damaged\":COUNT and the bytes of all.
 
 Changes of a type:
   describe --reads NEW OLD checks whether each file of values of the shape OLD is read by the shape
@@ -194,7 +194,7 @@ static DESCRIBE: Program = Program {
                 taken: Taken::U32,
                 default: &[],
             },
-            help: "The greatest length of the encoding in a frame, in bytes [default: 1048576]",
+            help: "The greatest length of a frame's content, in bytes [default: 1048576]",
             conflicts: &[],
             needs: &["frames"],
         },
