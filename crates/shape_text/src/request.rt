@@ -95,7 +95,7 @@ const AFTER_HELP: &str = "Shapes:
   (T)                          T, in brackets around a part
 
 Output:
-  A line of JSON for each encoding, with its place and its length in bytes:
+  A line of JSON for each encoding, with its offset and its length in bytes:
   {\"offset\":0,\"length\":3,\"value\":300}
 
   A number that fits 64 bits is a number, any other a string. Readers that hold numbers as doubles,
