@@ -1,6 +1,6 @@
 //! The tables of worked rows by the calls for slices, for streams and for shapes.
 
-use crate::broken::Broken;
+use crate::broken::{Broken, BrokenBuffered};
 use crate::by_shape::ByShape;
 use bincode::config::{self, Endianness};
 use bincode::de::Decode;
@@ -134,10 +134,13 @@ fn reads_the_rows_from_streams(rt: HostRuntime) {
     assert!(rt; keeps_cells::<Buffered<4>>(alloc) || keeps_cells::<Buffered<4>>(alloc));
 }
 
-/// a stream that fails at each call: a read that fails at any place before the last byte is an `Io`, and so is a write.
+/// a stream that fails at each call: a read that fails at any place before the last byte is an `Io`, also below a
+/// `BufReader`, and so is a write.
 #[test]
 fn fails_with_the_stream(rt: HostRuntime) {
-    assert!(rt; all_hold::<Broken>(rt.alloc()) && keeps_cells::<Broken>(rt.alloc()));
+    let alloc = rt.alloc();
+    assert!(rt; all_hold::<Broken>(alloc) && keeps_cells::<Broken>(alloc));
+    assert!(rt; all_hold::<BrokenBuffered>(alloc));
 }
 
 /// each row by its shape: the 56 whose type is described, by the type and by `Described::shape`, with the same bytes,
