@@ -1,7 +1,7 @@
 //! What callers prove of floats: the very float comes back.
 ghost use Rattle.std.specs.Prelude.{◌≡◌, true, IfOk, MatchResult};
 ghost use Rattle.bincode_spec.specs.Answer.{Allows};
-ghost use Rattle.bincode_spec.specs.Decoding.{IsRefused};
+ghost use Rattle.bincode_spec.specs.Decoding.{MayReportMemory};
 
 use bincode::checked::{RoundTrip, round_trip_within};
 use bincode::config::Config;
@@ -20,7 +20,7 @@ pub fn round_trip_of_f64<C: Config>(
     config: C,
 ) -> Result<RoundTrip<f64>, EncodeError>
     ensures { Allows C.bound 8 → IfOk result (λ trip. MatchResult trip.read
-        (λ x. (value ≡ x.0) × (x.1 ≡ trip.written)) (IsRefused ⊥)) }
+        (λ x. (value ≡ x.0) × (x.1 ≡ trip.written)) (MayReportMemory ⊥)) }
 {
     let written = encode_into_slice(value, slice, config)?;
     let read = decode_from_slice(alloc, slice, config);
@@ -36,7 +36,7 @@ pub fn round_trip_of_ordered<C: Config>(
 ) -> Result<RoundTrip<(u32, OrderedFloat<f64>)>, EncodeError>
     ensures { Allows C.bound 12 → IfOk result (λ trip. MatchResult trip.read
         (λ x. (⟦<(u32, OrderedFloat<f64>) as PartialEq>⟧.eq value.now x.0 ≡ true) × (x.1 ≡ trip.written))
-        (IsRefused (⟦<(u32, OrderedFloat<f64>) as Wire>⟧.words.may_allocate))) }
+        (MayReportMemory (⟦<(u32, OrderedFloat<f64>) as Wire>⟧.words.may_allocate))) }
 {
     round_trip_within(alloc, value, slice, config)
 }

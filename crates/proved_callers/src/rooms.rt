@@ -10,7 +10,7 @@ use bincode::encode_into_writer;
 use bincode::error::EncodeError;
 use bincode::laws::Plain;
 
-/// Encodes a value. Succeeds exactly if it fits the writer's room, unless memory is refused or the device fails.
+/// Encodes a value. Succeeds only if it fits the writer's room; if it does, the error is `Memory` or of the device.
 pub fn fits_exactly<E: Encode + Plain, W: Writer, C: Config>(
     value: &E,
     writer: &mut W,
