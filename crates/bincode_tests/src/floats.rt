@@ -93,17 +93,38 @@ fn keeps_bits_that_are_no_nan(rt: HostRuntime) {
     rows_hold(
         &rt,
         &[
-            ("the least f32", each_call_keeps::<f32>(alloc, &[1, 0, 0, 0])),
-            ("0.1 as f32", each_call_keeps::<f32>(alloc, &[0xCD, 0xCC, 0xCC, 0x3D])),
-            ("-0.0 as f32", each_call_keeps::<f32>(alloc, &[0, 0, 0, 0x80])),
-            ("-inf as f32", each_call_keeps::<f32>(alloc, &[0, 0, 0x80, 0xFF])),
-            ("the least f64", each_call_keeps::<f64>(alloc, &[1, 0, 0, 0, 0, 0, 0, 0])),
+            (
+                "the least f32",
+                each_call_keeps::<f32>(alloc, &[1, 0, 0, 0]),
+            ),
+            (
+                "0.1 as f32",
+                each_call_keeps::<f32>(alloc, &[0xCD, 0xCC, 0xCC, 0x3D]),
+            ),
+            (
+                "-0.0 as f32",
+                each_call_keeps::<f32>(alloc, &[0, 0, 0, 0x80]),
+            ),
+            (
+                "-inf as f32",
+                each_call_keeps::<f32>(alloc, &[0, 0, 0x80, 0xFF]),
+            ),
+            (
+                "the least f64",
+                each_call_keeps::<f64>(alloc, &[1, 0, 0, 0, 0, 0, 0, 0]),
+            ),
             (
                 "0.1 as f64",
                 each_call_keeps::<f64>(alloc, &[0x9A, 0x99, 0x99, 0x99, 0x99, 0x99, 0xB9, 0x3F]),
             ),
-            ("-0.0 as f64", each_call_keeps::<f64>(alloc, &[0, 0, 0, 0, 0, 0, 0, 0x80])),
-            ("inf as f64", each_call_keeps::<f64>(alloc, &[0, 0, 0, 0, 0, 0, 0xF0, 0x7F])),
+            (
+                "-0.0 as f64",
+                each_call_keeps::<f64>(alloc, &[0, 0, 0, 0, 0, 0, 0, 0x80]),
+            ),
+            (
+                "inf as f64",
+                each_call_keeps::<f64>(alloc, &[0, 0, 0, 0, 0, 0, 0xF0, 0x7F]),
+            ),
             (
                 "an ordered f32",
                 each_call_keeps::<OrderedFloat<f32>>(alloc, &[0, 0, 0, 0x80]),
@@ -163,8 +184,14 @@ fn reads_each_nan_and_writes_the_quiet_one(rt: HostRuntime) {
         &[
             ("f32", are_nans_32(alloc)),
             ("f64", are_nans_64(alloc)),
-            ("the NaN of f32", is_encoded(&f32::NAN, &NANS_32[0], config::standard())),
-            ("a negative one", is_encoded(&-f64::NAN, &NANS_64[0], config::legacy())),
+            (
+                "the NaN of f32",
+                is_encoded(&f32::NAN, &NANS_32[0], config::standard()),
+            ),
+            (
+                "a negative one",
+                is_encoded(&-f64::NAN, &NANS_64[0], config::legacy()),
+            ),
         ],
     );
 }
@@ -188,8 +215,14 @@ fn needs_its_width(rt: HostRuntime) {
             ("[f32; 4]", needs::<[f32; 4], 16, 15>(alloc, &zeros)),
             ("(f32, f64)", needs::<(f32, f64), 12, 11>(alloc, &zeros)),
             ("Vec<f64>", needs::<Vec<f64>, 24, 23>(alloc, &pair)),
-            ("f32, cut", ends_at_each_place::<(), f32>(alloc, &zeros[..4], ())),
-            ("f64, cut", ends_at_each_place::<(), f64>(alloc, &zeros[..8], ())),
+            (
+                "f32, cut",
+                ends_at_each_place::<(), f32>(alloc, &zeros[..4], ()),
+            ),
+            (
+                "f64, cut",
+                ends_at_each_place::<(), f64>(alloc, &zeros[..8], ()),
+            ),
         ],
     );
 }
@@ -199,12 +232,10 @@ fn is_read_as<'de, T>(alloc: Global, value: &T, bytes: &'de [u8]) -> bool
 where
     T: Encode + Decode<()> + BorrowDecode<&'de [u8], ()> + PartialEq,
 {
-    let lent: Option<(T, usize)> =
-        borrow_decode_from_slice(alloc, bytes, config::standard()).ok();
+    let lent: Option<(T, usize)> = borrow_decode_from_slice(alloc, bytes, config::standard()).ok();
     let owned: Option<(T, usize)> = decoded(alloc, bytes, config::standard()).ok();
     let mut stream = bytes;
-    let streamed: Option<T> =
-        decode_from_std_read(alloc, &mut stream, config::standard()).ok();
+    let streamed: Option<T> = decode_from_std_read(alloc, &mut stream, config::standard()).ok();
     matches!(lent, Some((read, taken)) if read == *value && taken == bytes.len())
         && matches!(owned, Some((read, taken)) if read == *value && taken == bytes.len())
         && matches!(streamed, Some(read) if read == *value)
@@ -219,8 +250,14 @@ fn keeps_what_holds_floats(rt: HostRuntime) {
         &[
             ("a float", is_read_as(alloc, &1.0f32, &row[..4])),
             ("an array", is_read_as(alloc, &[1.0f32, -2.0], &row)),
-            ("a tuple", is_read_as(alloc, &(1.0f32, 2u16), &[0, 0, 0x80, 0x3F, 2])),
-            ("an option", is_read_as(alloc, &Some(-2.0f32), &[1, 0, 0, 0, 0xC0])),
+            (
+                "a tuple",
+                is_read_as(alloc, &(1.0f32, 2u16), &[0, 0, 0x80, 0x3F, 2]),
+            ),
+            (
+                "an option",
+                is_read_as(alloc, &Some(-2.0f32), &[1, 0, 0, 0, 0xC0]),
+            ),
             ("none", is_read_as(alloc, &None::<f64>, &[0])),
         ],
     );

@@ -145,8 +145,7 @@ fn is_part_of_longer(source: &Source<'_>, name: &str, variant: &str) -> bool {
 /// What the library has no words for in the types of the fields.
 fn refused_type<'t>(source: &Source<'t>, item: &Item<'t>) -> Option<Refusal<'t>> {
     for field in item.fields.iter() {
-        let refusal = refused_in(source, field.of, item.is_borrowing())
-            .or(refused_key(field.of));
+        let refusal = refused_in(source, field.of, item.is_borrowing()).or(refused_key(field.of));
         if refusal.is_some() {
             return refusal;
         }
