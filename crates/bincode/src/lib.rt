@@ -1,13 +1,31 @@
-//! Compact binary encoding and decoding, in the format of bincode 2.
+//! Compact binary encoding and decoding, in the format of the Rust crate bincode 2.0.1.
 //!
-//! From `crates/hello/src/main.rt`, where `rt` is what `main` is given:
+//! A whole program, from `crates/hello/src/main.rt`:
 //! ```
-//! let config = config::standard().with_limit::<4096>();
+//! use bincode::{config, decode_from_slice, encode_to_vec};
 //!
-//! let bytes = encode_to_vec(rt.alloc(), (300u32, "tea"), config)?;
-//! // ..
-//! let (record, taken): ((u32, String), usize) = decode_from_slice(rt.alloc(), &bytes, config)?;
+//! fn main(rt: HostRuntime) -> anyhow::Result<()> {
+//!     let config = config::standard().with_limit::<4096>();
+//!     let bytes = encode_to_vec(rt.alloc(), (300u32, "tea"), config)?;
+//!     println!(rt; "{bytes:?}")?;
+//!     let (record, taken): ((u32, String), usize) = decode_from_slice(rt.alloc(), &bytes, config)?;
+//!     println!(rt; "{record:?}, from {taken} bytes")?;
+//!     Ok(())
+//! }
 //! ```
+//! `rt.alloc()` is the allocator. Each call that allocates takes it first, and may fail with `Memory`.
+//!
+//! What to do about an error, from `crates/guide/src/errors.rt`:
+//! ```
+//! match decode_from_slice(alloc, bytes, config) {
+//!     Ok((message, taken)) => Received::Message(message, taken),
+//!     Err(DecodeError::UnexpectedEnd { .. }) => Received::ReadMore,
+//!     Err(DecodeError::LimitExceeded) => Received::TooLarge,
+//!     Err(DecodeError::Memory) => Received::TryLater,
+//!     Err(error) => Received::Malformed(error),
+//! }
+//! ```
+//! docs/GUIDE.md has more such code, task by task, and says which call to take.
 #![tactic(auto)]
 
 mod borrow;

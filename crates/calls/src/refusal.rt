@@ -1,4 +1,4 @@
-//! What is answered to a frame that holds no request, or one whose answer is too long.
+//! What is replied to a frame that holds no request, or one whose reply is too long.
 ghost use Rattle.std.specs.Prelude.{◌≡◌};
 ghost use Rattle.calls.specs.Refusals.{fault_of};
 

@@ -1,4 +1,4 @@
-//! What the words that the program is given ask for.
+//! What the arguments of the program ask for.
 ghost use Rattle.std.specs.Prelude.{◌≡◌, IfOk, Some, codes};
 ghost use Rattle.clap.specs.Words.{first_value, found_of, one_text};
 

@@ -1,4 +1,4 @@
-//! What the program answers, by tables of questions.
+//! What the program prints, by tables of questions.
 //!
 //! A table is a text. A line `=====` parts two questions, and a line `-----` a question from its answer. The first word
 //! of a question says what is asked.

@@ -1,4 +1,4 @@
-//! What words ask for, and where the module goes.
+//! What arguments ask for, and where the module goes.
 
 use crate::answers::wrong_in;
 use derive_request::paths::{declared_path, module_path};

@@ -1,4 +1,4 @@
-//! What words ask for.
+//! What arguments ask for.
 
 use crate::sources::{requested, words_of};
 use bincode::config::{Endianness, IntEncoding};

@@ -1,7 +1,8 @@
-//! The code of docs/GUIDE.md, task by task.
+//! The code of docs/GUIDE.md, task by task, and the match on errors that README shows.
 #![tactic(auto)]
 
 pub mod borrowing;
+pub mod errors;
 pub mod files;
 pub mod hostile;
 pub mod lengths;

@@ -1,4 +1,4 @@
-//! What words ask for.
+//! What arguments ask for.
 
 use crate::stores::{SALT, TEA, has_word};
 use clap::Error;
