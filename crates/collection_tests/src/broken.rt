@@ -4,9 +4,7 @@ use bincode::config::Config;
 use bincode::de::Decode;
 use bincode::enc::Encode;
 use bincode::error::{DecodeError, EncodeError};
-use bincode::{
-    decode_from_reader, decode_from_std_read, encode_into_slice, encode_into_std_write,
-};
+use bincode::{decode_from_reader, decode_from_std_read, encode_into_slice, encode_into_std_write};
 use conformance::calls::{Buffered, Bytewise, Calls};
 use conformance::fault::Fault;
 use std::alloc::Global;

@@ -69,8 +69,11 @@ fn answers_that_the_arena_is_full(rt: HostRuntime) {
     let bump = Bump::new(rt.alloc());
     bump.set_allocation_limit(Some(0));
     assert!(&rt;
-        is_too_long(rt.alloc(), &bump, &[253, 255, 255, 255, 255, 255, 255, 255, 255])
-            && is_too_long(rt.alloc(), &bump, &[252, 160, 134, 1, 0])
+        is_too_long(
+            rt.alloc(),
+            &bump,
+            &[253, 255, 255, 255, 255, 255, 255, 255, 255]
+        ) && is_too_long(rt.alloc(), &bump, &[252, 160, 134, 1, 0])
     );
     let refused: Result<(ArenaList<'_, u32>, usize), DecodeError> = decode_from_slice_with_context(
         rt.alloc(),
@@ -84,11 +87,7 @@ fn answers_that_the_arena_is_full(rt: HostRuntime) {
 }
 
 /// What is decoded into an arena from a stream of one byte a call, which fails from a given call on.
-fn streamed(
-    alloc: Global,
-    bump: &Bump,
-    calls: usize,
-) -> Result<ArenaList<'_, u32>, DecodeError> {
+fn streamed(alloc: Global, bump: &Bump, calls: usize) -> Result<ArenaList<'_, u32>, DecodeError> {
     let mut stream = Breaking {
         bytes: &NUMBERS,
         calls,
@@ -98,10 +97,7 @@ fn streamed(
 
 /// Whether the three numbers are decoded from a stream of four calls.
 fn are_streamed(alloc: Global, bump: &Bump) -> bool {
-    matches!(
-        streamed(alloc, bump, 4),
-        Ok(ArenaList { items: [1, 2, 3] })
-    )
+    matches!(streamed(alloc, bump, 4), Ok(ArenaList { items: [1, 2, 3] }))
 }
 
 /// Whether the stream is told to be broken where it fails at an earlier call.

@@ -570,7 +570,12 @@ pub static LISTS: [Row; 10] = [
         label: "24",
         kind: Kind::ArenaList,
         encoding: &[3, 1, 2, 3],
-        tags: &[(0, SHORT), (1, CUT_NUMBER), (2, CUT_NUMBER), (3, CUT_NUMBER)],
+        tags: &[
+            (0, SHORT),
+            (1, CUT_NUMBER),
+            (2, CUT_NUMBER),
+            (3, CUT_NUMBER),
+        ],
     },
     Row {
         label: "25g",

@@ -23,7 +23,8 @@ use own_types::table::Table;
 use own_types::track::Track;
 use std::alloc::Global;
 use test_helpers::checks::{
-    borrowed, decoded, each_call_keeps, ends_at_each_place, fault_of, fills, is_passed, refuses_tag, within,
+    borrowed, decoded, each_call_keeps, ends_at_each_place, fault_of, fills, is_passed,
+    refuses_tag, within,
 };
 
 /// Whether this is a word of the type for each call, with bytes after it, and no prefix of it is one.

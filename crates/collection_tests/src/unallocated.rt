@@ -85,10 +85,8 @@ fn writes() -> bool {
 fn refuses_pieces() -> bool {
     let mut slice = [9u8; 2];
     let mut writer = SliceWriter::new(&mut slice);
-    let is_full = matches!(
-        writer.write(&[1, 2, 3]),
-        Err(EncodeError::UnexpectedEnd)
-    ) && writer.bytes_written() == 0;
+    let is_full = matches!(writer.write(&[1, 2, 3]), Err(EncodeError::UnexpectedEnd))
+        && writer.bytes_written() == 0;
     drop(writer);
     let mut counter = SizeWriter {
         bytes_written: usize::MAX,
@@ -201,7 +199,9 @@ type Eight = (u16, u64, usize, i8, i16, i32, i64, isize);
 fn decodes_numbers(alloc: Global) -> bool {
     let Ok((eight, 16)): Result<(Eight, usize), DecodeError> = decode(
         alloc,
-        &[251, 44, 1, 10, 251, 251, 0, 255, 1, 252, 128, 56, 1, 0, 3, 3],
+        &[
+            251, 44, 1, 10, 251, 251, 0, 255, 1, 252, 128, 56, 1, 0, 3, 3,
+        ],
     ) else {
         return false;
     };
@@ -240,14 +240,15 @@ fn tells_faults(alloc: Global) -> bool {
         Err(DecodeError::UnexpectedEnd { additional: _ })
     ) && matches!(
         decode::<u64>(alloc, &[254]),
-        Err(
-            DecodeError::InvalidIntegerType {
-                expected: IntegerType::U64,
-                found: IntegerType::U128
-            }
-        )
+        Err(DecodeError::InvalidIntegerType {
+            expected: IntegerType::U64,
+            found: IntegerType::U128
+        })
     ) && matches!(pair, Err(DecodeError::LimitExceeded))
-        && matches!(borrow::<&str>(alloc, &[2, 195, 40]), Err(DecodeError::Utf8 { inner: _ }))
+        && matches!(
+            borrow::<&str>(alloc, &[2, 195, 40]),
+            Err(DecodeError::Utf8 { inner: _ })
+        )
 }
 
 /// Whether choices and ranges are decoded.

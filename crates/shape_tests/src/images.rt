@@ -200,12 +200,42 @@ fn tuples_have_images(rt: HostRuntime) {
             has_counted_image(alloc, &(0u8, 1u8, 2u8, 3u8, 4u8, 5u8, 6u8), 7),
             has_counted_image(alloc, &(0u8, 1u8, 2u8, 3u8, 4u8, 5u8, 6u8, 7u8), 8),
             has_counted_image(alloc, &(0u8, 1u8, 2u8, 3u8, 4u8, 5u8, 6u8, 7u8, 8u8), 9),
-            has_counted_image(alloc, &(0u8, 1u8, 2u8, 3u8, 4u8, 5u8, 6u8, 7u8, 8u8, 9u8), 10),
-            has_counted_image(alloc, &(0u8, 1u8, 2u8, 3u8, 4u8, 5u8, 6u8, 7u8, 8u8, 9u8, 10u8), 11),
-            has_counted_image(alloc, &(0u8, 1u8, 2u8, 3u8, 4u8, 5u8, 6u8, 7u8, 8u8, 9u8, 10u8, 11u8), 12),
-            has_counted_image(alloc, &(0u8, 1u8, 2u8, 3u8, 4u8, 5u8, 6u8, 7u8, 8u8, 9u8, 10u8, 11u8, 12u8), 13),
-            has_counted_image(alloc, &(0u8, 1u8, 2u8, 3u8, 4u8, 5u8, 6u8, 7u8, 8u8, 9u8, 10u8, 11u8, 12u8, 13u8), 14),
-            has_counted_image(alloc, &(0u8, 1u8, 2u8, 3u8, 4u8, 5u8, 6u8, 7u8, 8u8, 9u8, 10u8, 11u8, 12u8, 13u8, 14u8), 15),
+            has_counted_image(
+                alloc,
+                &(0u8, 1u8, 2u8, 3u8, 4u8, 5u8, 6u8, 7u8, 8u8, 9u8),
+                10,
+            ),
+            has_counted_image(
+                alloc,
+                &(0u8, 1u8, 2u8, 3u8, 4u8, 5u8, 6u8, 7u8, 8u8, 9u8, 10u8),
+                11,
+            ),
+            has_counted_image(
+                alloc,
+                &(0u8, 1u8, 2u8, 3u8, 4u8, 5u8, 6u8, 7u8, 8u8, 9u8, 10u8, 11u8),
+                12,
+            ),
+            has_counted_image(
+                alloc,
+                &(
+                    0u8, 1u8, 2u8, 3u8, 4u8, 5u8, 6u8, 7u8, 8u8, 9u8, 10u8, 11u8, 12u8,
+                ),
+                13,
+            ),
+            has_counted_image(
+                alloc,
+                &(
+                    0u8, 1u8, 2u8, 3u8, 4u8, 5u8, 6u8, 7u8, 8u8, 9u8, 10u8, 11u8, 12u8, 13u8,
+                ),
+                14,
+            ),
+            has_counted_image(
+                alloc,
+                &(
+                    0u8, 1u8, 2u8, 3u8, 4u8, 5u8, 6u8, 7u8, 8u8, 9u8, 10u8, 11u8, 12u8, 13u8, 14u8,
+                ),
+                15,
+            ),
         ],
     );
 }
