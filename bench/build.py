@@ -1,4 +1,4 @@
-"""What the commands of this folder share: steps that may fail, and a copy of the crates in which crates of one's own can be proved."""
+"""What the commands of this folder share: steps that may fail, and a copy of the crates in which further crates can be proved."""
 
 import os
 import shutil

@@ -1,5 +1,5 @@
-"""The port's side: a function for each type, which makes the call of a number under the configuration of a number and leaves the answer in a
-room of bytes. What a room holds stands in harness/src/answer.rs."""
+"""The port's side: a function for each type, which makes the call of a number under the configuration of a number and leaves the result in a
+buffer. What a buffer holds is in harness/src/answer.rs."""
 
 import kinds
 

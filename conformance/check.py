@@ -1,5 +1,6 @@
 #!/usr/bin/env python3
-"""Runs the rows of rows.json by shapes.py and words.py, which were written from docs/FORMAT.md alone.
+"""Runs the rows of rows.json by shapes.py and words.py, which were written from docs/FORMAT.md alone, but for the texts
+and the JSON of docs/SHAPES.md.
 
     conformance/check.py [ROWS]        conformance/rows.json unless another file is named
 

@@ -59,7 +59,7 @@ def wrong_fault(fault, status, lines, said):
     if status != 1 or lines:
         return [f"wanted {fault}, found {lines[:1]}, status {status}: {said.strip()}"]
     if fault["name"] == "UnexpectedEnd":
-        is_told = "torn at byte 0: " in said
+        is_told = "truncated at byte 0: " in said
     else:
         is_told = " at byte 0: " in said and all(part in said for part in shown(fault))
     return [] if is_told else [f"wanted {fault}, found {said.strip()}"]

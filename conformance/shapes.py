@@ -1,4 +1,4 @@
-"""Shapes, by their text, and types, by their names: sections 5 to 8 of docs/FORMAT.md."""
+"""Shapes, by their text, and types, by their names: docs/SHAPES.md, and sections 5 to 8 of docs/FORMAT.md."""
 import re
 
 SIZES = {"8": 1, "16": 2, "32": 4, "64": 8, "128": 16, "size": 8}

@@ -1,5 +1,5 @@
 #!/usr/bin/env python3
-"""Changes rows of rows.json, one thing in each, and wants check.py to tell each of them, and run_rows.py each that it runs.
+"""Changes rows of rows.json, one thing in each, and wants check.py to report each of them, and run_rows.py each that it runs.
 
     conformance/try_changed_rows.py [PROGRAM] [--rows N] [--seed N]
 

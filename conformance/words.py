@@ -1,4 +1,4 @@
-"""Words and their values: what is read of some bytes, and what is written, by sections 3 to 11 of docs/FORMAT.md."""
+"""Encodings and their values: what is read of some bytes, and what is written, by sections 3 to 11 of docs/FORMAT.md."""
 import re
 
 from shapes import SCALARS, WIDTHS, kept

@@ -3,16 +3,21 @@
 
     scripts/definitions.py [--names | --text | --update] [CALL .. [-- TYPE ..]]
 
-Without calls it takes `encode_into_slice` and `decode_from_slice`, with `(u32, String, Vec<u16>)`. It prints how many definitions
-these are, and how many lines without comments; with --names also their names, file by file, and with --text each in full, one after
-what it needs. --update writes the names into docs/PROVED.md, between the two lines that name this script.
+Without calls it takes `encode_into_slice` and `decode_from_slice`, with `(u32, String, Vec<u16>)`. It prints how many
+definitions these are, and how many lines without comments; with --names also their names, file by file, and with
+--text each in full, one after what it needs. --update writes the names into docs/PROVED.md, between the two lines that
+name this script.
 
-Of what a type says of its words it takes the members that these contracts name. Laws are left out: they are proved of each type, and
-no contract of a call names one. So is the program that reads a format (`read` of `Format`), which lemmas alone name, and so are what a
-form of numbers says for laws (`Bounds` and `need` of `Form`), the laws of what decoding promises (`keeps` and `joins` of `Promise`) and the
-definitions of the standard library. It stops where a contract comes to name one of these.
+Of the record `Words`, which says what the encodings of a type are, it takes the members that these contracts name, and
+one law, `lawful`: each input begins with an encoding or has a fault, never both, and what is written is an encoding.
+Without it the contracts would say nothing of an input that had neither. Of that law (`IsLawful`) it prints the fields
+that say so. The law names the program that reads a format (`read` of `Format`), of which it is enough to know that
+there is one: it gives one result for each input. So what each format reads by it is left out. Left out, too, are the
+other laws, which are proved of each type and which no contract of a call names; what a form of numbers says for laws
+(`Bounds` and `need` of `Form`); the laws of what decoding promises (`keeps` and `joins` of `Promise`); and the
+definitions of the standard library. The script stops where a contract comes to name one of these.
 """
-import glob, os, re, sys
+import glob, os, re, sys, textwrap
 
 ROOT = os.path.dirname(os.path.dirname(os.path.abspath(__file__)))
 # The members of `Words`, the record of what a type says of its words.
@@ -20,6 +25,9 @@ MEMBERS = ['format', 'valid', 'means', 'decodes_to', 'writable', 'own_errors', '
            'errors_are_own', 'claims', 'needs', 'charges_enough']
 # The members of `Format`, `Form` and `Promise` that no contract of a call names: laws and lemmas do.
 BY_LAWS = ['read', 'Bounds', 'need', 'keeps', 'joins']
+# The law that is printed, the member of `Words` that has it, and the fields of it that are left out: they speak of
+# longer inputs.
+LAW, LAW_MEMBER, OTHER_FIELDS = 'IsLawful', 'lawful', ['stays', 'begun', 'mended']
 LEMMAS = 'bincode_lemmas'  # the crate of laws
 WORD = re.compile(r"[^\W\d][\w']*(?:-[^\W][\w']*)*|◌[^\s{},()]*◌|◌[^\s{},()]+|[^\s\w(){}\[\],.;λ_◌]+")
 
@@ -159,17 +167,21 @@ class Library:
 
 
     def chosen(self, text):
-        """A text without the members of `Words`, `Format` and `Form` that no contract names."""
+        """A text without the members of `Words`, `Format` and `Form` that neither a contract nor the law names."""
         for member in BY_LAWS:
-            text = re.sub(rf'^  (pub )?{member} [=:] [^\n]*\n?', '', text, flags=re.M)
+            signs = '=' if member == 'read' and 'record Format ' in text else '=:'
+            text = re.sub(rf'^  (pub )?{member} [{signs}] [^\n]*\n?', '', text, flags=re.M)
             text = re.sub(rf';? {member} = [^;{{}}]*(?=;| }})', '', text)
+        if f'record {LAW} ' in text:
+            text = re.sub(rf'^  pub ({"|".join(OTHER_FIELDS)}) : [^\n]*\n?', '', text, flags=re.M)
         if not re.search(r'^\s+(pub )?lawful [=:] ', text, re.M):
             return text
         kept, skips = [], False
         for line in text.split('\n'):
             field = re.match(r'\s+(?:pub )?(\w+) [=:] ', line)
             if field:
-                skips = field.group(1) in MEMBERS and field.group(1) not in self.members
+                is_law = line.startswith(f'  pub {LAW_MEMBER} : ')
+                skips = field.group(1) in MEMBERS and field.group(1) not in self.members and not is_law
             elif re.match(r'\s*[})]', line) or not line.startswith(' '):
                 skips = False
             if not skips:
@@ -266,7 +278,8 @@ def clauses(call):
         found = re.search(rf'^pub fn {call}\b', text, re.M)
         if found:
             head = text[found.start():text.index('\n{', found.start())]
-            return re.sub(r'//[^\n]*', '', head[head.find('\n    ensures'):]), parse_use(text, 'ghost use')
+            said = re.sub(r'//[^\n]*', '', head[head.find('\n    ensures'):])
+            return re.sub(r'^    (ensures|requires) \w+ \{', r'    \1 {', said, flags=re.M), parse_use(text, 'ghost use')
     sys.exit(f'{call}: no such call in bincode')
 
 
@@ -294,27 +307,32 @@ def main():
     starts += library.cited('Setting', parse_use(read(f'{ROOT}/crates/bincode_base/src/config.rt'), 'ghost use'))
     for text, scope in texts[len(calls):] + texts[:len(calls)]:
         starts += library.cited(text, scope)
+    starts.append(('bincode_types', 'TypeWords', 'Words'))
     order = library.needed(dict.fromkeys(starts))
     texts = {key: library.chosen('\n'.join(library.made[key].lines)) for key in order}
     texts = {key: text.rstrip('\n') for key, text in texts.items()}
-    named = sorted({name for name in BY_LAWS for text in texts.values() if re.search(rf'\w\.{name}\b', text)})
+    named = sorted({name for name in BY_LAWS for key, text in texts.items()
+                    if key[2] != LAW and re.search(rf'\w\.{name}\b', text)})
     if named:
         sys.exit(f'named by a contract, so it has to be shown: {", ".join(named)}')
     count = sum(text.count('\n') + 1 for text in texts.values())
     files = list(dict.fromkeys(key[:2] for key in order))
     total = f'{len(order)} definitions, {count} lines, in {len(files)} files'
-    rows = ['| File | Definitions |', '|---|---|']
+    rows = []
     for file in files:
-        rows.append(f'| `{file[0]}/specs/{file[1].replace(".", "/")}` | ' + ', '.join(f'`{key[2]}`' for key in order if key[:2] == file) + ' |')
+        names = ', '.join(f'`{key[2]}`' for key in order if key[:2] == file)
+        row = f'- `{file[0]}/specs/{file[1].replace(".", "/")}`: {names}'
+        rows.append(textwrap.fill(row, 118, subsequent_indent='  ', break_long_words=False, break_on_hyphens=False))
     if shows == '--text':
         print('\n\n'.join(texts.values()) + '\n')
     if shows == '--names':
         print('\n'.join(rows))
     if shows == '--update':
         page = read(f'{ROOT}/docs/PROVED.md')
-        before, _, rest = page.partition('<!-- scripts/definitions.py -->\n')
-        _, _, after = rest.partition('<!-- end of scripts/definitions.py -->\n')
-        page = before + '<!-- scripts/definitions.py -->\n' + f'{total}:\n\n' + '\n'.join(rows) + '\n<!-- end of scripts/definitions.py -->\n' + after
+        first, last = '<!-- scripts/definitions.py -->\n', '<!-- end of scripts/definitions.py -->\n'
+        before, _, rest = page.partition(first)
+        _, _, after = rest.partition(last)
+        page = before + first + f'{total}:\n\n' + '\n'.join(rows) + '\n' + last + after
         with open(f'{ROOT}/docs/PROVED.md', 'w', encoding='utf-8') as file:
             file.write(page)
     print(total)

@@ -5,8 +5,8 @@
 
 PROGRAM is the built program (crates/describe/out/describe). It is run once, with all pairs on its standard input. For each pair and each of the four settings:
 
-  yes   each word of OLD that is tried is read by NEW as the same: short strings of bytes, and words that are drawn by docs/FORMAT.md
-  no    the rules of section 16, written anew below, say no too; bytes that are shown are a word of OLD, and not one of NEW with that meaning; and at the
+  yes   each word of OLD that is tried is read by NEW as the same: short strings of bytes, and encodings that are drawn by docs/FORMAT.md
+  no    the rules of docs/SHAPES.md, section 4, written anew below, say no too; bytes that are shown are a word of OLD, and not one of NEW with that meaning; and at the
         place that is named stand the shapes that are named
   no, without bytes: counted, and those of which a word that was tried shows a difference
 
@@ -92,7 +92,7 @@ def text_of(shape, is_part=False):
     return f"({bars})" if is_part else bars
 
 
-# The rules of section 16. Each shape that has a text has words.
+# The rules of docs/SHAPES.md, section 4. Each shape that has a text has encodings.
 
 def is_nothing(shape):
     return shape.kind == "unit" or shape.kind == "array" and shape.count == 0

@@ -1,5 +1,5 @@
 #!/usr/bin/env python3
-"""Tries a built program that keeps records in a store of frames on files that are damaged, torn, locked, full or huge.
+"""Tries a built program that keeps records in a store of frames on files that are damaged, truncated, locked, full or huge.
 
     scripts/try_store.py PROGRAM [--huge] [--only WORD]
 

@@ -1,7 +1,7 @@
 """Ten types of a user's, and the program over them, as Rattle over the port and as Rust over the original.
 
 The program reads a file with a value of each type, one after the other, writes each value to bytes again, and prints how many.
-Rattle's side is written as docs/OWN_TYPES.md says, without the laws, which no code comes from. Rust's is what the original's derive writes.
+Rattle's side is written as docs/BY_HAND.md says, without the laws, which no code comes from. Rust's is what the original's derive writes.
 """
 
 # a struct by its fields, an enum by its variants and what each holds

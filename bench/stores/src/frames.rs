@@ -1,4 +1,4 @@
-//! Frames around articles, as docs/FORMAT.md has them: a length, the word, and a check over both.
+//! Frames around articles, as docs/STORES.md has them: a length, the word, and a check over both.
 use crate::article::{Article, settings};
 use std::error::Error;
 use std::io::{self, BufRead, ErrorKind, Read};

@@ -69,7 +69,7 @@ fn add(path: &str, words: &[&str], reads_back: bool) -> Outcome {
     let (offset, ending) = step_over(&mut BufReader::with_capacity(BLOCK, &file))?;
     let why = match ending {
         Ending::Whole => return add_at(path, &file, offset, words, reads_back),
-        Ending::Torn => format!("torn at byte {offset}"),
+        Ending::Torn => format!("truncated at byte {offset}"),
         Ending::TooLong(length) => format!("no frame at byte {offset}, of a length of {length}"),
     };
     eprintln!("records: {path}: {why}: nothing was added. `records repair` makes the file whole");

@@ -132,7 +132,7 @@ fn print_ending(out: &mut impl Write, file: &str, seen: &Seen, ending: &Ending) 
         Ending::Torn => {
             writeln!(
                 out,
-                "{file}: torn at byte {offset}, records before it: {articles}, damaged frames: {others}"
+                "{file}: truncated at byte {offset}, records before it: {articles}, damaged frames: {others}"
             )
         }
         Ending::TooLong(length) => writeln!(

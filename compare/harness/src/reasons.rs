@@ -24,30 +24,30 @@ impl Reason {
     /// What docs/DIFFERENCES.md says of it.
     pub fn row(self) -> &'static str {
         match self {
-            Reason::Claims => "`size_of::<T>()` in claims: `T::claim_size()`",
+            Reason::Claims => "`size_of::<T>()` in claims is `T::claim_size()`",
             Reason::Octets => {
-                "the octets of an address are not counted against a limit: 4 and 16 bytes are charged before they are read"
+                "the octets of an address are charged before they are read, 4 and 16 bytes"
             }
             Reason::Names => {
-                "a variable decode of `u64` through the peeking path names `U32` .. and that of `u128` names `Usize`: each type's own name"
+                "`expected` of `InvalidIntegerType`: a variable `u64` through the path that peeks names `U32`, and a `u128` `Usize`; here it is each type's own name"
             }
             Reason::Left => {
-                "of a slice with as many bytes left as the longest word has, a tag that is refused is not taken: it is taken"
+                "a refused tag over a slice: the crate does not take it where as many bytes are left as the longest encoding has; here it is taken"
             }
             Reason::Missing => {
-                "an `Io` of a stream has as `additional` the length that was asked for: what of it is missing"
+                "`additional` of an `Io` is what of the length is missing, and not the length that was asked for"
             }
             Reason::TypeName => {
-                "`type_name` is the full name, with its path and parameters: the bare name; a `TypeName`, of at most 10 bytes"
+                "the text of `type_name` is the bare name; beside a tag there is a `TypeName`, of at most 10 bytes"
             }
             Reason::Listed => {
-                "`UnexpectedVariant { found, type_name, allowed }`: two variants, .. and `UnlistedVariant` for a list"
+                "`UnexpectedVariant { found, type_name, allowed }` is two variants, one of them `UnlistedVariant` for a list"
             }
             Reason::Memory => {
-                "memory that is wanting aborts: the variants `EncodeError::Memory` and `DecodeError::Memory`"
+                "`EncodeError::Memory` and `DecodeError::Memory` are new: in the crate memory that is wanting aborts the program"
             }
             Reason::Order => {
-                "`HashMap<K, V>` and `HashSet<T>` with `RandomState`: with every hasher; and docs/FORMAT.md, section 6: hashed maps and sets and heaps are written in some order"
+                "`HashMap<K, V>` and `HashSet<T>` take every hasher; and docs/FORMAT.md, section 6: hashed maps and sets and heaps are written in some order"
             }
         }
     }

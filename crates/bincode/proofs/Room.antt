@@ -36,7 +36,7 @@ module _ {W : Type 0} (adds : Adds W) (refuses : Refuses W) (room : W → Option
   halted-why e (by_writer front piece middle h r b) = refused-why front piece middle e h b (refuses_why middle after piece e r)
   halted-why e (by_name front h n b) = inl n
 
-  -- within the room only memory and the device are left
+  -- within the room only the errors of memory and device are left
   within-fails : (e : EncodeError) → OneLength (IsReady R A) → ((d : EncodeError) → ¬ (N d)) → (word : List ℕ) → IsReady R A word → WithinRoom (room before) word → Why e →
       WriterFails device (failures before) (failures after) e
   within-fails e one none word a fits (inl n) = absurd (none e n)

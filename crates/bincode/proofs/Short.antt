@@ -25,7 +25,7 @@ only_memory : (N : EncodeError → Type 0) → ((e : EncodeError) → N e → �
 only_memory N none e (inl h) = h
 only_memory N none e (inr n) = absurd (none e n)
 
--- memory is refused to none but a value with bytes
+-- `Memory` comes only of a value with bytes
 pub lacks-memory : (R : Type 0) (A : List ℕ → Type 0) (N : EncodeError → Type 0) → OneLength A → ((e : EncodeError) → N e → ⊥) → R →
     (e : EncodeError) → (OneLength (IsReady R A) → IsReady R A [] → N e) → (e ≡ Memory) ⊎ N e → LacksMemory A e
 lacks-memory R A N one none r e empty fault =

@@ -5,7 +5,7 @@ use Rattle.bincode_base.specs.Setting.{Setting}
 use Rattle.bincode_base.specs.declared.error.DecodeError.{DecodeError}
 use Rattle.bincode_base.specs.declared.error.DecodeError.TheVariants.{LimitExceeded}
 use Rattle.bincode_spec.specs.Charge.{Step}
-use Rattle.bincode_spec.specs.Decoding.{IsRefused}
+use Rattle.bincode_spec.specs.Decoding.{MayReportMemory}
 use Rattle.bincode_spec.specs.Fault.{Fault, Tells}
 use Rattle.bincode_spec.specs.Format.{Format, Reading, Took}
 use Rattle.bincode_spec.specs.Layers.Laws.{IsLawful}
@@ -73,10 +73,10 @@ module _ (shape : Shape) (s : Setting) (limit : Option ℕ) (input : List ℕ) (
     }
 
 -- a fault that was measured
-pub told-fault : (why : Fault) (e : DecodeError) → Tells EndsSlice why e ⊎ IsRefused ⊥ e → IsDecode (Tells EndsSlice why) (errors.Decode e)
+pub told-fault : (why : Fault) (e : DecodeError) → Tells EndsSlice why e ⊎ MayReportMemory ⊥ e → IsDecode (Tells EndsSlice why) (errors.Decode e)
 told-fault why e (inl h) = (e, refl, h)
 told-fault why e (inr h) = absurd h.0
 
-pub told-limit : (e : DecodeError) → (e ≡ LimitExceeded) ⊎ IsRefused ⊥ e → IsDecode (λ z. z ≡ LimitExceeded) (errors.Decode e)
+pub told-limit : (e : DecodeError) → (e ≡ LimitExceeded) ⊎ MayReportMemory ⊥ e → IsDecode (λ z. z ≡ LimitExceeded) (errors.Decode e)
 told-limit e (inl h) = (e, refl, h)
 told-limit e (inr h) = absurd h.0

@@ -17,7 +17,7 @@ TakesAll n (Err e) (Ok value) = ⊥
 TakesAll n (Err e) (Err (exact.TrailingBytes taken)) = ⊥
 TakesAll n (Err e) (Err (exact.Decode why)) = why ≡ e
 
--- if all of the bytes are a word whose steps stay within the limit, only memory can be refused
+-- if all of the bytes are a word whose steps stay within the limit, the one error is `Memory`, if decoding may allocate
 abbrev pub ReadsWhole : {A : Type 0} → Format Meaning → Option ℕ → Type 0 → List ℕ → Result A DecodeExactError → Type 0
 ReadsWhole F limit MayAllocate input result = (meaning : Meaning) (steps : List Step) → F.Word input meaning steps → StaysWithin limit 0 steps →
     IfErr result (λ e. MayAllocate × (e ≡ exact.Decode decoding.Memory))

@@ -1,4 +1,4 @@
--- The error of a slice that is too short, and of memory that is refused.
+-- The error of a slice that is too short, and `Memory`.
 use Rattle.std.specs.Prelude.{◌≡◌, ◌≢◌, ◌<◌, ℕ, List, [], length}
 use Rattle.bincode_base.specs.declared.error.EncodeError.{EncodeError}
 use Rattle.bincode_base.specs.declared.error.EncodeError.TheVariants.{Memory, UnexpectedEnd}
@@ -7,6 +7,6 @@ use Rattle.bincode_base.specs.declared.error.EncodeError.TheVariants.{Memory, Un
 abbrev pub TooShort : (List ℕ → Type 0) → ℕ → EncodeError → Type 0
 TooShort Allowed room e = (e ≡ UnexpectedEnd) × ((word : List ℕ) → Allowed word → room < length word)
 
--- memory was refused to a value that has bytes
+-- the error is `Memory`, of a value whose words all have bytes
 abbrev pub LacksMemory : (List ℕ → Type 0) → EncodeError → Type 0
 LacksMemory Allowed e = (e ≡ Memory) × ((word : List ℕ) → Allowed word → word ≢ [])

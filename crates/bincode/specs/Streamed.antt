@@ -10,7 +10,7 @@ use Rattle.bincode_spec.specs.Meaning.{Meaning}
 use Rattle.bincode_io.specs.Stream.{TellsBytes, known_bytes, EndsShort, IsIo, IsWriteIo, stream_errors}
 
 -- What was read of a stream (`old` before, `new` after), if its bytes are known: `IsRead` for a reader of those bytes,
--- whose end and whose failures are `Io`. It fails otherwise only if memory is refused, for a type that takes some.
+-- whose end is `Io`. In place of each of its other answers it may be any `Io`, and `Memory` if decoding may allocate.
 abbrev pub IsStreamRead : {R T : Type 0} → (R → Option (List ℕ)) → Type 0 → Format Meaning → Option ℕ → (Meaning → T → Type 0) → Result T DecodeError → R → R → Type 0
 IsStreamRead remaining MayAllocate F bound DecodesTo result old new =
     IsRead (λ stream. TellsBytes (remaining stream)) (λ stream. known_bytes (remaining stream)) EndsShort (IsExcused stream_errors MayAllocate 0 0) IsIo F bound DecodesTo result old new

@@ -4,7 +4,7 @@ ghost use Rattle.std.specs.Prelude.{◌≡◌, ◌-◌, ◌^◌, ℕ, List, true
 ghost use Rattle.bincode_base.specs.declared.error.DecodeError.TheVariants.{LimitExceeded};
 ghost use Rattle.bincode_spec.specs.Allowed.{AllowedWord};
 ghost use Rattle.bincode_spec.specs.Answer.{Allows};
-ghost use Rattle.bincode_spec.specs.Decoding.{IsExcused, IsRead, IsRefused};
+ghost use Rattle.bincode_spec.specs.Decoding.{IsExcused, IsRead, MayReportMemory};
 ghost use Rattle.bincode_spec.specs.Limited.{LimitedBy, WordBounded};
 ghost use Rattle.bincode_spec.specs.Limits.{FitsLimit};
 ghost use Rattle.bincode_spec.specs.Slice.{EndsSlice, IsAnswer};
@@ -37,8 +37,8 @@ pub struct RoundTrip<T> {
 }
 
 /// Encodes a value into the front of a slice and decodes it from there, with the bytes after it. If the charges of the
-/// encoding stay within the limit, an equal value is decoded from as many bytes, unless memory is refused. Fails with
-/// `UnexpectedEnd` if the slice is too short.
+/// encoding stay within the limit, an equal value is decoded from as many bytes, or decoding fails with `Memory`, for
+/// any value of a type that may allocate. Fails with `UnexpectedEnd` if the slice is too short.
 pub fn round_trip<T: Encode + Decode<()> + Exact, C: Config>(
     alloc: Global,
     value: &T,
@@ -47,7 +47,7 @@ pub fn round_trip<T: Encode + Decode<()> + Exact, C: Config>(
 ) -> Result<RoundTrip<T>, EncodeError>
     ensures back { IfOk result (λ trip. FitsLimit (T.words.format C.setting) C.bound (take trip.written slice.new) →
         MatchResult trip.read (λ x. (T.eq value.now x.0 ≡ true) × (x.1 ≡ trip.written))
-        (IsRefused T.words.may_allocate)) }
+        (MayReportMemory T.words.may_allocate)) }
     ensures short { IfErr result (TooShort (AllowedWord (T.words.means value.now) (T.words.format C.setting))
         (length slice.old)) }
 {
@@ -67,8 +67,8 @@ pub struct VecTrip<T> {
 }
 
 /// Encodes a value into a vector and decodes it from there. If the charges of the encoding stay within the limit, an
-/// equal value is decoded from as many bytes, unless memory is refused. Fails with `Memory` if the allocation of the
-/// vector is refused, and never otherwise; a value without bytes asks for none.
+/// equal value is decoded from as many bytes, or decoding fails with `Memory`, for any value of a type that may
+/// allocate. Encoding fails with no other error than `Memory`, for any value that has bytes, and never for another.
 pub fn round_trip_by_vec<T: Encode + Decode<()> + Exact, C: Config>(
     alloc: Global,
     value: &T,
@@ -76,7 +76,7 @@ pub fn round_trip_by_vec<T: Encode + Decode<()> + Exact, C: Config>(
 ) -> Result<VecTrip<T>, EncodeError>
     ensures back { IfOk result (λ trip. FitsLimit (T.words.format C.setting) C.bound trip.bytes.items →
         MatchResult trip.read (λ x. (T.eq value.now x.0 ≡ true) × (x.1 ≡ length trip.bytes.items))
-        (IsRefused T.words.may_allocate)) }
+        (MayReportMemory T.words.may_allocate)) }
     ensures refused { IfErr result (LacksMemory (AllowedWord (T.words.means value.now) (T.words.format C.setting))) }
 {
     T::tell_plain();
@@ -97,10 +97,10 @@ pub fn round_trip_within<T: Encode + Decode<()> + Exact + ConstantCharge, C: Con
 ) -> Result<RoundTrip<T>, EncodeError>
     ensures back { Allows C.bound T.peak → IfOk result (λ trip.
         MatchResult trip.read (λ x. (T.eq value.now x.0 ≡ true) × (x.1 ≡ trip.written))
-        (IsRefused T.words.may_allocate)) }
+        (MayReportMemory T.words.may_allocate)) }
     ensures fits { IfOk result (λ trip. FitsLimit (T.words.format C.setting) C.bound (take trip.written slice.new) →
         MatchResult trip.read (λ x. (T.eq value.now x.0 ≡ true) × (x.1 ≡ trip.written))
-        (IsRefused T.words.may_allocate)) }
+        (MayReportMemory T.words.may_allocate)) }
     ensures short { IfErr result (TooShort (AllowedWord (T.words.means value.now) (T.words.format C.setting))
         (length slice.old)) }
 {
@@ -119,7 +119,7 @@ pub fn read_within<T: Decode<()>, C: Config>(
     ensures answer { IsAnswer (T.words.format C.setting) C.bound T.words.may_allocate T.words.decodes_to src.now
         result }
     ensures limited { (limit : ℕ) → C.bound ≡ Some limit → LimitedBy EndsSlice (T.words.format C.setting)
-        (T.words.need C.setting) limit (IsRefused T.words.may_allocate) src.now result }
+        (T.words.need C.setting) limit (MayReportMemory T.words.may_allocate) src.now result }
     ensures bounded { (limit : ℕ) → C.bound ≡ Some limit
         → IfOk result (λ x. WordBounded (T.words.format C.setting) limit src.now x.1) }
 {
@@ -135,7 +135,7 @@ pub fn borrow_read_within<'a, T: BorrowDecode<&'a [u8], ()>, C: Config>(
     ensures answer { IsAnswer (T.words.format C.setting) C.bound T.words.may_allocate T.words.decodes_to src.now
         result }
     ensures limited { (limit : ℕ) → C.bound ≡ Some limit → LimitedBy EndsSlice (T.words.format C.setting)
-        (T.words.need C.setting) limit (IsRefused T.words.may_allocate) src.now result }
+        (T.words.need C.setting) limit (MayReportMemory T.words.may_allocate) src.now result }
     ensures bounded { (limit : ℕ) → C.bound ≡ Some limit
         → IfOk result (λ x. WordBounded (T.words.format C.setting) limit src.now x.1) }
 {

@@ -15,7 +15,7 @@ use std::fmt;
 /// Why bytes are not one encoding.
 #[derive(Debug, Drop)]
 pub enum DecodeExactError {
-    /// They do not begin with an encoding within the limit, or memory was refused. The error says why.
+    /// They do not begin with an encoding within the limit, or decoding failed with `Memory`. The error says why.
     Decode(DecodeError),
     /// They begin with an encoding within the limit, and go on after it.
     TrailingBytes {
@@ -45,10 +45,10 @@ pub fn decode_exact_from_slice<D: Decode<()>, C: Config>(
     src: &[u8],
     config: C,
 ) -> Result<D, DecodeExactError>
-    // All of the bytes are an encoding within the limit, and the value is given for its meaning.
+    // All of the bytes are an encoding within the limit, and the value is one that it decodes to.
     ensures word { IfOk result (λ v. IsDecoded (D.words.format C.setting) C.bound src.now (λ m. D.words.decodes_to m v)
         (length src.now)) }
-    // If all of them are an encoding within the limit, it is read, unless memory is refused.
+    // If all of them are an encoding within the limit, it is decoded, or the error is `Memory` and `D` may allocate.
     ensures found { ReadsWhole (D.words.format C.setting) C.bound D.words.may_allocate src.now result }
     // It is what `decode_from_slice` answers: the value, if all bytes were taken, or else how many were; or the error.
     ensures answer { (answer : Result (D × ℕ) DecodeError)

@@ -35,8 +35,8 @@ fn has_ended<R: BufRead>(stream: &mut R) -> Result<bool, StreamError>
 }
 
 /// Decodes a value from what the buffer of a stream shows, and consumes just its encoding. Fails, with nothing
-/// consumed, if the buffer shows no whole encoding within the limit, memory is refused or the stream fails; the error
-/// is the stream's, if that is why.
+/// consumed, if the buffer shows no whole encoding within the limit, an allocation is refused or the stream fails; the
+/// error is the stream's, if that is why.
 fn decode_shown<D: Decode<()>, C: Config, R: BufRead>(
     alloc: Global,
     src: &mut R,

@@ -15,8 +15,8 @@ use bincode_io::write::{SliceWriter, Writer};
 const LONGEST_NUMBER: usize = 16;
 
 /// Whether integers are fixed, the maximum size of the value is known, and the slice is shorter than it. After `false`
-/// the compiler knows that each piece of such a value has room, and drops the checks (docs/DECISIONS.md, "One test for
-/// a value of fixed numbers").
+/// the compiler knows that each piece of such a value fits, and drops the checks (docs/dev/PERFORMANCE.md, "One check
+/// of the capacity").
 #[inline(always)]
 pub(crate) fn needs_checks<C: Config>(dst: &[u8], most: Option<usize>, config: &C) -> bool {
     match (config.int_encoding(), most) {

@@ -18,7 +18,7 @@ module _ {D A T U : Type 0} {is_known : D → Type 0} {remaining : D → List �
       Reads is_known remaining charge failures loans limit end_error device H F other charged (Ok u) old new
   read-made made read = read-as (λ known. made-of made (read.ok known)) (λ known. tt) read.within read
 
-  -- memory is refused
+  -- the error is `Memory`
   pub read-refused : IsLawful F → {v : T} {e : DecodeError} → e ≡ Memory → Reads is_known remaining charge failures loans limit end_error device G F decodes_to charged (Ok v) old new →
       Reads is_known remaining charge failures loans limit end_error device (Unit {0}) F other charged (Err e) old new
   read-refused f e read = read-as (λ known. tt) (λ known. let d = read.ok known in by_memory tt e (gave-takes limit F f (remaining old) charged d.meaning (remaining new) (charge new) d.answer_is)) (λ _. tt) read

@@ -107,7 +107,7 @@ module _ {D T : Type 0} {is_known : D → Type 0} {remaining : D → List ℕ} {
           same_loans = r.same_loans ∙ h.same_loans;
         }
 
--- memory may be refused for more reasons, and the result is another value with the same items
+-- `Memory` may come for more reasons, and the result is another value with the same items
 pub read-besides :
     {D A B T : Type 0} {is_known : D → Type 0} {remaining : D → List ℕ} {charge failures : D → ℕ} {loans : D → List GName} {limit : Option ℕ}
     {end_error : ℕ → DecodeError → Type 0} {device : DeviceErrors} {G H : Type 0} {claim : ℕ} {format : Format Meaning} {decodes_to : Meaning → T → Type 0}
@@ -142,7 +142,7 @@ read-of k same r = record {
   same_loans = r.same_loans;
 }
 
--- memory may be refused for more reasons
+-- `Memory` may come for more reasons
 pub read-widened :
     {D A T : Type 0} {is_known : D → Type 0} {remaining : D → List ℕ} {charge failures : D → ℕ} {loans : D → List GName} {limit : Option ℕ}
     {end_error : ℕ → DecodeError → Type 0} {device : DeviceErrors} {G H : Type 0} {claim : ℕ} {format : Format Meaning} {decodes_to : Meaning → T → Type 0}

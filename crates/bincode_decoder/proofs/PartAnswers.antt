@@ -13,7 +13,7 @@ use Rattle.bincode_spec.specs.Layers.Values.{Reads}
 use Rattle.bincode_lemmas.specs.DecodingLaws.{answer-next, stops-first, stops-next, stops-besides, from_result-gave, from_result-refused, gave-takes}
 use Rattle.bincode_decoder.proofs.ReadAnswers.{read-as, read-after, exactly}
 
--- memory may be refused for more reasons
+-- `Memory` may come for more reasons
 pub reads-besides :
     {D A T : Type 0} {is_known : D → Type 0} {remaining : D → List ℕ} {charge failures : D → ℕ} {loans : D → List GName} {limit : Option ℕ}
     {end_error : ℕ → DecodeError → Type 0} {device : DeviceErrors} {G H : Type 0} {F : Format A} {decodes_to : A → T → Type 0} {start : ℕ} (r : Result T DecodeError)

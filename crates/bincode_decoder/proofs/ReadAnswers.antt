@@ -73,7 +73,7 @@ module _ {D R C : Type 0} {is_known : D → Type 0} {remaining : D → List ℕ}
     same_loans = kept.same_loans;
   }
 
-  -- a claim succeeds, then memory is refused
+  -- a claim succeeds, then the error is `Memory`
   pub charge-refused : {A T G : Type 0} {F : Format A} {decodes_to : A → T → Type 0} (n : ℕ) → ClaimSucceeds limit (charge old) n (charge now) → G →
       Reads is_known remaining charge failures loans limit end_error device G F decodes_to (charge old) (Err Memory) old now
   charge-refused n claim grows = record {

@@ -73,7 +73,7 @@ module _ {D T : Type 0} {is_known : D → Type 0} {remaining : D → List ℕ} {
       none (inl h) = absurd h
       none (inr h) = inr h
 
-  -- after a length, memory is refused only for a length above 0
+  -- after a length, `Memory` comes only for a length above 0
   pub some-refused : {A : Type 0} {F : Format A} {decodes_to : A → T → Type 0} {n c : ℕ} (r : Result T DecodeError) {middle new : D} →
       Reads is_known remaining charge failures loans limit end_error device ⊥ (len s) (λ m v. m ≡ v) start (Ok n) old middle →
       Reads is_known remaining charge failures loans limit end_error device (0 < n) F decodes_to c r middle new →

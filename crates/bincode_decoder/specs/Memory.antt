@@ -1,4 +1,4 @@
--- Refused memory: never for what is empty.
+-- `Memory`: never for what is empty.
 use Rattle.std.specs.Prelude.{◌≡◌, ◌<◌, ◌⊎◌, ℕ, List, Result, IfErr}
 use Rattle.bincode_base.specs.Setting.{Setting}
 use Rattle.bincode_base.specs.declared.error.DecodeError.{DecodeError}

@@ -1,4 +1,4 @@
-//! One check of the room for a whole value.
+//! One check of the capacity for a whole value.
 ghost use Rattle.std.specs.Prelude.{◌≡◌, ◌+◌, ◌^◌, ◌<◌, ℕ, List, length, max, true, Some, IfSome};
 ghost use Rattle.bincode_spec.specs.Device.{WithinRoom};
 
@@ -10,7 +10,7 @@ const LONGEST: usize = 12;
 
 /// Whether integers are fixed, the maximum size of a value is known and at most `LONGEST`, and the writer is sure to
 /// have room for it. The caller does the same in both branches: after `true` LLVM knows that each piece has room and
-/// drops the checks of the pieces (docs/DECISIONS.md, "One test for a value of fixed numbers").
+/// drops the checks of the pieces (docs/dev/PERFORMANCE.md, "One check of the capacity").
 #[inline(always)]
 pub fn fits_in_one_check<E: Encoder>(encoder: &E, most: Option<usize>) -> bool
     ensures { result ≡ true → IfSome most (λ n. (piece : List ℕ) → length piece ≡ n

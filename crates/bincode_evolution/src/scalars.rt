@@ -1,4 +1,4 @@
-//! Shapes without parts, and when one reads the words of another.
+//! Shapes without parts, and when one of them reads all encodings of another.
 ghost use Rattle.std.specs.Prelude.{◌≡◌};
 ghost use Rattle.bincode_evolution.specs.Rules.{is_nothing, unsigned_width, signed_width, keeps, is_variable};
 

@@ -1,4 +1,4 @@
-//! Which shapes have words.
+//! Which shapes have an encoding at all.
 ghost use Rattle.std.specs.Prelude.{◌≡◌};
 ghost use Rattle.std.specs.List.{list_all};
 ghost use Rattle.bincode_evolution.specs.Rules.{has_words};

@@ -16,7 +16,7 @@ capacity_of w = vec_capacity w.bytes
 abbrev pub VecAdds : VecWriter → List ℕ → VecWriter → Type 0
 VecAdds a piece b = (held_by b ≡ held_by a ++ piece) × (capacity_of a ≤ capacity_of b) × (piece ≡ [] → b ≡ a)
 
--- a piece does not fit, and memory is refused; nothing changes
+-- a piece does not fit the capacity, and the error is `Memory`; nothing changes
 abbrev pub VecRefuses : VecWriter → List ℕ → EncodeError → VecWriter → Type 0
 VecRefuses a piece e b =
     (e ≡ Memory) × (capacity_of a < length (held_by a) + length piece) × (held_by b ≡ held_by a) × (capacity_of b ≡ capacity_of a) × (0 < length piece)
@@ -25,8 +25,7 @@ VecRefuses a piece e b =
 abbrev pub Doubles : VecWriter → VecWriter → Type 0
 Doubles a b = capacity_of a < length (held_by b) → 2 * capacity_of a ≤ capacity_of b
 
--- `all` bytes fit after what was held before, and the capacity has at least doubled; or it is unchanged, because they
--- fitted already or memory is refused
+-- `all` bytes fit after what was held before, and the capacity has at least doubled; or it is unchanged
 abbrev pub MakesRoom : ℕ → VecWriter → VecWriter → Type 0
 MakesRoom all a b =
     (capacity_of b ≡ capacity_of a) ⊎ ((length (held_by a) + all ≤ capacity_of b) × (2 * capacity_of a ≤ capacity_of b))

@@ -92,7 +92,7 @@ pub trait Writer: Drop {
     ghost refuses_count: { (a b : Self) (piece : List ℕ) (e : EncodeError) → refuses a piece e b → failures a
         ≤ failures b };
 
-    /// A write fails because the piece is too long, memory is refused or the device fails.
+    /// A write fails because the piece is too long, with `Memory`, or with an error of the device.
     ghost refuses_why: { (a b : Self) (piece : List ℕ) (e : EncodeError) → refuses a piece e b →
         TooLong (room a) piece ⊎ WriterFails device (failures a) (failures b) e };
 

@@ -7,7 +7,7 @@ use Rattle.bincode_base.specs.declared.error.DecodeError.TheVariants.{LimitExcee
 use Rattle.bincode_spec.specs.Layers.Agree.{SameReading, SameAnswer, both_passed, both_tell, IsCut, WasCut, WasRefused}
 use Rattle.bincode_spec.specs.Answer.{Answer, Gave, Refused, PassedLimit, StepsOf, of_word, of_fault, answer}
 use Rattle.bincode_spec.specs.Charge.{Step, StaysWithin, Passes}
-use Rattle.bincode_spec.specs.Decoding.{IsRefused}
+use Rattle.bincode_spec.specs.Decoding.{MayReportMemory}
 use Rattle.bincode_spec.specs.Fault.{Fault, Tells, IsEnd, End, InvalidInteger, Zero, UnexpectedVariant, Utf8, InvalidChar, InvalidBool, Between, OneOf, short, long}
 use Rattle.bincode_spec.specs.Fault.{InvalidDuration, NulAt, Other, LengthMismatch, EmptyEnum, OutsideUsize}
 use Rattle.bincode_spec.specs.Format.{Format, Reading, Took, Failed}
@@ -119,7 +119,7 @@ module _ (F : Format Meaning) (f : IsLawful F) (b : IsBalanced F) (limit : Optio
     both_read (Err d) c word remaining remaining' m steps u w p q = inl (p.found word remaining m steps refl u w)
 
     -- both inputs pass the limit
-    both_pass : (a c : Result (T × ℕ) DecodeError) → IsErrAnd a (λ e. (e ≡ LimitExceeded) ⊎ IsRefused MayAllocate e) → IsErrAnd c (λ e. (e ≡ LimitExceeded) ⊎ IsRefused MayAllocate e) →
+    both_pass : (a c : Result (T × ℕ) DecodeError) → IsErrAnd a (λ e. (e ≡ LimitExceeded) ⊎ MayReportMemory MayAllocate e) → IsErrAnd c (λ e. (e ≡ LimitExceeded) ⊎ MayReportMemory MayAllocate e) →
         WasRefused MayAllocate a ⊎ (WasRefused MayAllocate c ⊎ SameAnswer DecodesTo a c)
     both_pass (Ok x) c h k = absurd h
     both_pass (Err d) (Ok y) h k = absurd k
@@ -128,16 +128,16 @@ module _ (F : Format Meaning) (f : IsLawful F) (b : IsBalanced F) (limit : Optio
     both_pass (Err d) (Err e) (inl p) (inl q) = inr (inr (both_passed p q))
 
     -- both inputs have this fault
-    both_fail : (a c : Result (T × ℕ) DecodeError) (why : Fault) → ¬ (IsEnd why) → IsErrAnd a (λ e. Tells EndsSlice why e ⊎ IsRefused MayAllocate e) →
-        IsErrAnd c (λ e. Tells EndsSlice why e ⊎ IsRefused MayAllocate e) → WasRefused MayAllocate a ⊎ (WasRefused MayAllocate c ⊎ SameAnswer DecodesTo a c)
+    both_fail : (a c : Result (T × ℕ) DecodeError) (why : Fault) → ¬ (IsEnd why) → IsErrAnd a (λ e. Tells EndsSlice why e ⊎ MayReportMemory MayAllocate e) →
+        IsErrAnd c (λ e. Tells EndsSlice why e ⊎ MayReportMemory MayAllocate e) → WasRefused MayAllocate a ⊎ (WasRefused MayAllocate c ⊎ SameAnswer DecodesTo a c)
     both_fail (Ok x) c why n h k = absurd h
     both_fail (Err d) (Ok y) why n h k = absurd k
     both_fail (Err d) (Err e) why n (inr r) k = inl r
     both_fail (Err d) (Err e) why n (inl p) (inr r) = inr (inl r)
     both_fail (Err d) (Err e) why n (inl p) (inl q) = inr (inr (both_tell why n p q))
 
-    -- a cut input gives the error that says so, unless memory is refused
-    cut_told : (a : Result (T × ℕ) DecodeError) (why : Fault) → IsEnd why → IsErrAnd a (λ e. Tells EndsSlice why e ⊎ IsRefused MayAllocate e) → WasCut a ⊎ WasRefused MayAllocate a
+    -- a cut input gives the error that says so, or `Memory` if decoding may allocate
+    cut_told : (a : Result (T × ℕ) DecodeError) (why : Fault) → IsEnd why → IsErrAnd a (λ e. Tells EndsSlice why e ⊎ MayReportMemory MayAllocate e) → WasCut a ⊎ WasRefused MayAllocate a
     cut_told (Ok x) why h t = absurd t
     cut_told (Err e) why h (inl t) = inl (end-told why e h t)
     cut_told (Err e) why h (inr r) = inr r
@@ -162,7 +162,8 @@ module _ (F : Format Meaning) (f : IsLawful F) (b : IsBalanced F) (limit : Optio
         let k = longer_passes input more h.0 h.1 h.2 in
         both_pass a c (p.limit h.0 h.1 h.2) (q.limit k.0 k.1 k.2)
 
-    -- An answer other than an end is the answer of each longer input, unless memory is refused.
+    -- An answer other than an end is the answer of each longer input, or one of both is `Memory` and decoding may
+    -- allocate.
     pub longer-answers : (input more : List ℕ) (a c : Result (T × ℕ) DecodeError) → IsAnswer F limit MayAllocate DecodesTo input a → IsAnswer F limit MayAllocate DecodesTo (input ++ more) c →
         ¬ (WasCut a) → WasRefused MayAllocate a ⊎ (WasRefused MayAllocate c ⊎ SameAnswer DecodesTo a c)
     longer-answers input more a c p q n = longer_by input more a c p q n (answer limit F input 0) refl
@@ -189,7 +190,7 @@ module _ (F : Format Meaning) (f : IsLawful F) (b : IsBalanced F) (limit : Optio
           absurd (cc)
     ]
 
-    -- Each proper prefix of a word within the limit gives the error of an end, unless memory is refused.
+    -- Each proper prefix of a word within the limit gives the error of an end, or `Memory` if decoding may allocate.
     pub front-ends : (front back : List ℕ) (m : Meaning) (steps : List Step) → F.Word (front ++ back) m steps → StaysWithin limit 0 steps → ¬ (back ≡ []) →
         (a : Result (T × ℕ) DecodeError) → IsAnswer F limit MayAllocate DecodesTo front a → WasCut a ⊎ WasRefused MayAllocate a
     front-ends front back m steps u w n a p = front_by front back m steps u w n a p (F.read front) refl

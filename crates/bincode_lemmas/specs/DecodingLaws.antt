@@ -29,7 +29,7 @@ rose-then a b c h (inr r) = inr r
 pub takes-then : (remaining middle remaining' : List ℕ) → Takes remaining middle → Takes middle remaining' → Takes remaining remaining'
 takes-then remaining middle remaining' (a, e) (b, f) = (a ++ b, e ∙ ap (λ z. a ++ z) f ∙ sym (append_assoc a b remaining'))
 
--- memory may be refused for more reasons
+-- `Memory` may come for more reasons
 pub stops-besides : {A : Type 0} (end_error : ℕ → DecodeError → Type 0) (device : DeviceErrors) (H K : Type 0) → (H → K) →
     (a : Answer A) (before after : ℕ) (remaining remaining' : List ℕ) {now : ℕ} (e : DecodeError) → DecodeFailure end_error device H a before after remaining remaining' now e →
     DecodeFailure end_error device K a before after remaining remaining' now e

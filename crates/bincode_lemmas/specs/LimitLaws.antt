@@ -6,7 +6,7 @@ use Rattle.bincode_base.specs.declared.error.DecodeError.{DecodeError}
 use Rattle.bincode_spec.specs.Allowed.{AllowedWord}
 use Rattle.bincode_spec.specs.Answer.{Gave, answer}
 use Rattle.bincode_spec.specs.Charge.{Step, StaysWithin}
-use Rattle.bincode_spec.specs.Decoding.{IsRefused}
+use Rattle.bincode_spec.specs.Decoding.{MayReportMemory}
 use Rattle.bincode_spec.specs.Format.{Format}
 use Rattle.bincode_spec.specs.Layers.Laws.{IsLawful, IsBalanced}
 use Rattle.bincode_spec.specs.Limits.{IsNoTighter, FitsLimit}
@@ -31,10 +31,10 @@ larger-gives F f b small large h input remaining m charge g =
     (counted_after large 0 w.steps, ap (λ z. answer large F z 0) w.input_is ∙ e)
 
 -- So do the decoding calls: what is decoded within a limit is decoded within each larger one, to a value of the same
--- meaning and from as many bytes, unless memory is refused.
+-- meaning and from as many bytes, or the error is `Memory` and decoding may allocate.
 pub larger-decodes : {A : Type 0} (F : Format Meaning) (f : IsLawful F) (small large : Option ℕ) → IsNoTighter small large → (input : List ℕ) (DecodesTo : Meaning → A → Type 0) (a : A) (n : ℕ) →
     IsDecoded F small input (λ m. DecodesTo m a) n → (MayAllocate : Type 0) (result : Result (A × ℕ) DecodeError) → IfOk result (λ x. IsDecoded F large input (λ m. DecodesTo m x.0) x.1) →
-    FindsWords F large MayAllocate input result → MatchResult result (λ x. ((m : Meaning) × DecodesTo m a × DecodesTo m x.0) × (x.1 ≡ n)) (IsRefused MayAllocate)
+    FindsWords F large MayAllocate input result → MatchResult result (λ x. ((m : Meaning) × DecodesTo m a × DecodesTo m x.0) × (x.1 ≡ n)) (MayReportMemory MayAllocate)
 larger-decodes F f small large h input DecodesTo a n d MayAllocate (Ok x) e found =
     let one = one-word f d.word e.word d.remaining e.remaining d.meaning e.meaning d.steps e.steps d.is_word e.is_word (sym d.input_is ∙ e.input_is) in
     ((d.meaning, d.is_decoded, subst (λ m. DecodesTo m x.0) (sym one.1) e.is_decoded), e.count ∙ ap length (sym one.0) ∙ sym d.count)
@@ -44,10 +44,10 @@ larger-decodes F f small large h input DecodesTo a n d MayAllocate (Err e) g fou
 module _ {A : Type 0} (F : Format Meaning) (f : IsLawful F) (limit : Option ℕ) (Means : Meaning → Type 0)
     (DecodesTo : Meaning → A → Type 0) (Same : A → Type 0) (same : (a : A) (m : Meaning) → Means m → DecodesTo m a → Same a) where
   -- A word that was written is read back under each limit that its own steps stay within: an equal value, of as many
-  -- bytes, whatever follows them, unless memory is refused.
+  -- bytes, whatever follows them, or the error is `Memory` and decoding may allocate.
   pub read-back : (word remaining : List ℕ) → AllowedWord Means F word → FitsLimit F limit word →
       (MayAllocate : Type 0) (result : Result (A × ℕ) DecodeError) → IfOk result (λ x. IsDecoded F limit (word ++ remaining) (λ m. DecodesTo m x.0) x.1) →
-      FindsWords F limit MayAllocate (word ++ remaining) result → MatchResult result (λ x. Same x.0 × (x.1 ≡ length word)) (IsRefused MayAllocate)
+      FindsWords F limit MayAllocate (word ++ remaining) result → MatchResult result (λ x. Same x.0 × (x.1 ≡ length word)) (MayReportMemory MayAllocate)
   read-back word remaining w within MayAllocate (Ok x) d found =
       let u = f.written_is_word word w.meaning w.is_written in
       let one = one-word f word d.word remaining d.remaining w.meaning d.meaning u.0 d.steps u.1 d.is_word d.input_is in
@@ -59,11 +59,11 @@ module _ {A : Type 0} (F : Format Meaning) (f : IsLawful F) (limit : Option ℕ)
   -- so is a slice that it was written into
   pub read-back_slice : (n : ℕ) (old new : List ℕ) → WordWritten (AllowedWord Means F) n old new → FitsLimit F limit (take n new) →
       (MayAllocate : Type 0) (result : Result (A × ℕ) DecodeError) → IfOk result (λ x. IsDecoded F limit new (λ m. DecodesTo m x.0) x.1) →
-      FindsWords F limit MayAllocate new result → MatchResult result (λ x. Same x.0 × (x.1 ≡ n)) (IsRefused MayAllocate)
+      FindsWords F limit MayAllocate new result → MatchResult result (λ x. Same x.0 × (x.1 ≡ n)) (MayReportMemory MayAllocate)
   read-back_slice n old new w within MayAllocate result d found =
       let remaining = drop (length w.word) old in
       let front : take n new ≡ w.word = ap (λ k. take k new) w.count ∙ ap (take (length w.word)) w.fills ∙ take-append_seam w.word remaining in
-      subst (λ k. MatchResult result (λ x. Same x.0 × (x.1 ≡ k)) (IsRefused MayAllocate)) (sym w.count)
+      subst (λ k. MatchResult result (λ x. Same x.0 × (x.1 ≡ k)) (MayReportMemory MayAllocate)) (sym w.count)
       (read-back w.word remaining w.is_allowed (subst (FitsLimit F limit) front within) MayAllocate result
       (subst (λ input. IfOk result (λ x. IsDecoded F limit input (λ m. DecodesTo m x.0) x.1)) w.fills d)
       (subst (λ input. FindsWords F limit MayAllocate input result) w.fills found))
@@ -71,7 +71,7 @@ module _ {A : Type 0} (F : Format Meaning) (f : IsLawful F) (limit : Option ℕ)
   -- and a vector
   pub read-back_vec : (bytes : List ℕ) → AllowedWord Means F bytes → FitsLimit F limit bytes →
       (MayAllocate : Type 0) (result : Result (A × ℕ) DecodeError) → IfOk result (λ x. IsDecoded F limit bytes (λ m. DecodesTo m x.0) x.1) →
-      FindsWords F limit MayAllocate bytes result → MatchResult result (λ x. Same x.0 × (x.1 ≡ length bytes)) (IsRefused MayAllocate)
+      FindsWords F limit MayAllocate bytes result → MatchResult result (λ x. Same x.0 × (x.1 ≡ length bytes)) (MayReportMemory MayAllocate)
   read-back_vec bytes w within MayAllocate result d found =
       let whole : bytes ≡ bytes ++ [] = sym (append-nil bytes) in
       read-back bytes [] w within MayAllocate result

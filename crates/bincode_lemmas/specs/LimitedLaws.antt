@@ -5,7 +5,7 @@ use Rattle.bincode_base.specs.declared.error.DecodeError.{DecodeError}
 use Rattle.bincode_base.specs.declared.error.DecodeError.TheVariants.{LimitExceeded}
 use Rattle.bincode_spec.specs.Answer.{StepsOf, of_word, of_fault}
 use Rattle.bincode_spec.specs.Charge.{Step, StaysWithin}
-use Rattle.bincode_spec.specs.Decoding.{IsRefused, AcceptsAll, ReportsFault, EnforcesLimit, WordRead}
+use Rattle.bincode_spec.specs.Decoding.{MayReportMemory, AcceptsAll, ReportsFault, EnforcesLimit, WordRead}
 use Rattle.bincode_spec.specs.Fault.{Fault, Tells, End, InvalidInteger, Zero, UnexpectedVariant, Utf8, InvalidChar, InvalidBool, InvalidDuration, NulAt}
 use Rattle.bincode_spec.specs.Fault.{Other, LengthMismatch, EmptyEnum, OutsideUsize, short, long, Between, OneOf}
 use Rattle.bincode_spec.specs.Format.{Format, Reading, Took, Failed}
@@ -85,9 +85,9 @@ read-limited F f need n end_error never Excused input bound result found told ov
 
 -- and from an answer to a slice
 pub answer-limited : {A : Type 0} (F : Format Meaning) → IsLawful F → (need : List ℕ → ℕ) → Needs need F → (MayAllocate : Type 0) (DecodesTo : Meaning → A → Type 0) (input : List ℕ) (bound : Option ℕ) (result : Result (A × ℕ) DecodeError) →
-    IsAnswer F bound MayAllocate DecodesTo input result → (limit : ℕ) → bound ≡ Some limit → LimitedBy EndsSlice F need limit (IsRefused MayAllocate) input result
+    IsAnswer F bound MayAllocate DecodesTo input result → (limit : ℕ) → bound ≡ Some limit → LimitedBy EndsSlice F need limit (MayReportMemory MayAllocate) input result
 answer-limited F f need n MayAllocate DecodesTo input bound result a =
-    read-limited F f need n EndsSlice (λ missing e h l. cc) (IsRefused MayAllocate) input bound result a.found a.fault a.limit
+    read-limited F f need n EndsSlice (λ missing e h l. cc) (MayReportMemory MayAllocate) input bound result a.found a.fault a.limit
 
 -- what was decoded under a limit is bounded by it
 module _ (F : Format Meaning) (f : IsLawful F) (b : IsBalanced F) (h : ChargesEnough F) where

@@ -1,5 +1,4 @@
-//! Types that are described at run time: their shapes, the images of their values, and the shape that a type tells of
-//! itself.
+//! Types that are described at run time: their shapes, generic values, and the shape of each type that has one.
 #![tactic(auto, using(crate::proofs::Formats::same_itself))]
 
 pub mod bytes;

@@ -4,7 +4,7 @@ use Rattle.bincode_base.specs.declared.error.DecodeError.{DecodeError}
 use Rattle.bincode_base.specs.declared.error.DecodeError.TheVariants.{LimitExceeded}
 use Rattle.bincode_spec.specs.Answer.{StepsOf}
 use Rattle.bincode_spec.specs.Charge.{Step, Passes, StaysWithin}
-use Rattle.bincode_spec.specs.Decoding.{IsRefused}
+use Rattle.bincode_spec.specs.Decoding.{MayReportMemory}
 use Rattle.bincode_spec.specs.Fault.{Fault, Tells}
 use Rattle.bincode_spec.specs.Format.{Format}
 use Rattle.bincode_spec.specs.Meaning.{Meaning}
@@ -21,10 +21,10 @@ IsTooMany values most e = e ≡ errors.TooManyValues values most
 abbrev pub IsDecode : (DecodeError → Type 0) → DecodeWithinError → Type 0
 IsDecode Why e = (why : DecodeError) × (e ≡ errors.Decode why) × Why why
 
--- each word within the limit that has no more values is accepted, unless memory is refused
+-- each word within the limit that has no more values is accepted, or the error is `Memory` and decoding may allocate
 abbrev pub FindsFew : {A : Type 0} → Format Meaning → Option ℕ → Type 0 → (Meaning → ℕ) → ℕ → List ℕ → Result A DecodeWithinError → Type 0
 FindsFew F limit MayAllocate count most input result = (word remaining : List ℕ) (meaning : Meaning) (steps : List Step) → input ≡ word ++ remaining → F.Word word meaning steps → StaysWithin limit 0 steps →
-    count meaning ≤ most → MatchResult result (λ _. Unit {0}) (IsDecode (IsRefused MayAllocate))
+    count meaning ≤ most → MatchResult result (λ _. Unit {0}) (IsDecode (MayReportMemory MayAllocate))
 
 -- each that has more is refused with their number
 abbrev pub RefusesMany : {A : Type 0} → Format Meaning → Option ℕ → (Meaning → ℕ) → ℕ → List ℕ → Result A DecodeWithinError → Type 0

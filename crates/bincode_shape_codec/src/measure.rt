@@ -1,4 +1,4 @@
-//! Counts the values in an encoding without making them, with any decoder that lends.
+//! Counts the values in an encoding without making them, with any decoder that gives out borrowed bytes.
 ghost use Rattle.std.specs.Prelude.{◌≡◌, ◌*◌, ◌<◌, ℕ, List, true, IfOk};
 ghost use Rattle.bincode_spec.specs.Answer.{Allows, after_release};
 ghost use Rattle.bincode_spec.specs.Layers.Claims.{MakesRelease};

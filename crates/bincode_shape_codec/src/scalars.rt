@@ -1,4 +1,4 @@
-//! Decoding of truth values, characters and texts of a shape.
+//! Decoding of `bool`, characters and texts of a shape.
 ghost use Rattle.bincode_spec.specs.Layers.Values.{Reads};
 ghost use Rattle.bincode_shape.specs.Shapes.{format_of, IsImage};
 ghost use Rattle.bincode_shape.specs.declared.shape.Shape.TheVariants as shapes;

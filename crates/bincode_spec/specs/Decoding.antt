@@ -15,9 +15,9 @@ pub record Decodes {A : Type 0} (DecodesTo : A → Type 0) (a : Answer A) (remai
   pub answer_is : a ≡ Gave meaning remaining charge
   pub is_decoded : DecodesTo meaning
 
--- The error tells the answer, and the charge is the one after the steps before the fault; or memory was refused, and
--- decoding may allocate; or the device failed with an error that it counts. A prefix of the input was taken. Or the
--- device failed with an error that it does not count, and then nothing is said of the input.
+-- The error tells the answer, and the charge is the one after the steps before the fault; or decoding may allocate and
+-- the error is `Memory`; or it is one that the device counts, and the count rose. A prefix of the input was taken. Or
+-- the error is one that the device does not count, and then nothing is said of the input.
 pub data DecodeFailure {A : Type 0} (end_error : ℕ → DecodeError → Type 0) (device : DeviceErrors) (MayAllocate : Type 0) (a : Answer A) (before after : ℕ) (remaining remaining' : List ℕ) (charge : ℕ) (e : DecodeError) : Type 0 where
   by_fault : (why : Fault) → a ≡ Refused why charge → Tells end_error why e → Takes remaining remaining' → DecodeFailure end_error device MayAllocate a before after remaining remaining' charge e
   by_limit : a ≡ PassedLimit → e ≡ LimitExceeded → Takes remaining remaining' → DecodeFailure end_error device MayAllocate a before after remaining remaining' charge e
@@ -25,13 +25,13 @@ pub data DecodeFailure {A : Type 0} (end_error : ℕ → DecodeError → Type 0)
   by_failure : device.is_counted e → CountRises before after → Takes remaining remaining' → DecodeFailure end_error device MayAllocate a before after remaining remaining' charge e
   by_device : device.is_uncounted e → DecodeFailure end_error device MayAllocate a before after remaining remaining' charge e
 
--- memory was refused, and decoding may allocate
-abbrev pub IsRefused : Type 0 → DecodeError → Type 0
-IsRefused MayAllocate e = MayAllocate × (e ≡ Memory)
+-- the format may allocate, and the error is `Memory`: of any input, whether or not an allocation was refused
+abbrev pub MayReportMemory : Type 0 → DecodeError → Type 0
+MayReportMemory MayAllocate e = MayAllocate × (e ≡ Memory)
 
--- memory was refused, and decoding may allocate; or the device failed
+-- decoding may allocate, and the error is `Memory`; or it is one of the device
 abbrev pub IsExcused : DeviceErrors → Type 0 → ℕ → ℕ → DecodeError → Type 0
-IsExcused device MayAllocate before after e = IsRefused MayAllocate e ⊎ ((device.is_counted e × CountRises before after) ⊎ device.is_uncounted e)
+IsExcused device MayAllocate before after e = MayReportMemory MayAllocate e ⊎ ((device.is_counted e × CountRises before after) ⊎ device.is_uncounted e)
 
 -- what was taken is a word whose steps stay within the limit, and the value is given for its meaning
 pub record WordRead (F : Format Meaning) (limit : Option ℕ) (input remaining : List ℕ) (DecodesTo : Meaning → Type 0) : Type 0 where

@@ -28,6 +28,6 @@ abbrev pub WithinRoom : Option ℕ → List ℕ → Type 0
 WithinRoom None piece = Unit {0}
 WithinRoom (Some room) piece = length piece ≤ room
 
--- memory was refused, or the device failed: its error says so, or its count of failures
+-- the error is `Memory` or one of the device, or its count of failures rose
 abbrev pub WriterFails : (EncodeError → Type 0) → ℕ → ℕ → EncodeError → Type 0
 WriterFails device before after e = (e ≡ Memory) ⊎ (device e ⊎ CountRises before after)

@@ -52,7 +52,7 @@ pub record Encodes {E W T : Type 0} (adds : Adds W) (refuses : Refuses W) (write
 
 -- An error that is neither the type's own nor one of memory or device comes only if a prefix of an allowed word is
 -- longer than the room. So if all words of a value have one length and its type has no errors, what is written fits the
--- room, and if it fits, only memory and the device fail.
+-- room, and if it fits, the error is one of memory or device.
 pub record FitsRoom (Allowed : List ℕ → Type 0) (OwnErrors Fails : EncodeError → Type 0) (room : Option ℕ) (result : Result (Unit {0}) EncodeError) : Type 0 where
   pub short : IfErr result (λ e. OwnErrors e ⊎ (Fails e ⊎ ((front : List ℕ) × Begins Allowed front × TooLong room front)))
   pub exact : OneLength Allowed → ((e : EncodeError) → ¬ (OwnErrors e)) → (word : List ℕ) → Allowed word →

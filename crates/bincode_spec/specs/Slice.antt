@@ -6,7 +6,7 @@ use Rattle.bincode_base.specs.declared.error.DecodeError.TheVariants.{Unexpected
 use Rattle.bincode_spec.specs.Charge.{Step, StaysWithin}
 use Rattle.bincode_spec.specs.Format.{Format}
 use Rattle.bincode_spec.specs.Meaning.{Meaning}
-use Rattle.bincode_spec.specs.Decoding.{IsRefused, AcceptsAll, ReportsFault, EnforcesLimit}
+use Rattle.bincode_spec.specs.Decoding.{MayReportMemory, AcceptsAll, ReportsFault, EnforcesLimit}
 use Rattle.bincode_spec.specs.Encoding.{Begins, IsOwn}
 
 -- these bytes replace the front of the slice, and those after them are unchanged
@@ -48,25 +48,25 @@ pub record IsDecoded (F : Format Meaning) (limit : Option ℕ) (input : List ℕ
   pub count : n ≡ length word
   pub is_decoded : DecodesTo meaning
 
--- each word within the limit is accepted, unless memory is refused
+-- each word within the limit is accepted, or the error is `Memory` and decoding may allocate
 abbrev pub FindsWords : {A : Type 0} → Format Meaning → Option ℕ → Type 0 → List ℕ → Result A DecodeError → Type 0
-FindsWords F limit MayAllocate input result = AcceptsAll F limit (IsRefused MayAllocate) input result
+FindsWords F limit MayAllocate input result = AcceptsAll F limit (MayReportMemory MayAllocate) input result
 
--- each fault within the limit is reported, unless memory is refused
+-- each fault within the limit is reported, or the error is `Memory` and decoding may allocate
 abbrev pub TellsFaults : {A : Type 0} → Format Meaning → Option ℕ → Type 0 → List ℕ → Result A DecodeError → Type 0
-TellsFaults F limit MayAllocate input result = ReportsFault EndsSlice F limit (IsRefused MayAllocate) input result
+TellsFaults F limit MayAllocate input result = ReportsFault EndsSlice F limit (MayReportMemory MayAllocate) input result
 
--- charges that pass the limit give `LimitExceeded`, unless memory is refused
+-- charges that pass the limit give `LimitExceeded`, or the error is `Memory` and decoding may allocate
 abbrev pub KeepsLimit : {A : Type 0} → Format Meaning → Option ℕ → Type 0 → List ℕ → Result A DecodeError → Type 0
-KeepsLimit F limit MayAllocate input result = EnforcesLimit F limit (IsRefused MayAllocate) input result
+KeepsLimit F limit MayAllocate input result = EnforcesLimit F limit (MayReportMemory MayAllocate) input result
 
 -- all that a call that decodes from a slice promises
 pub record IsAnswer {T : Type 0} (F : Format Meaning) (bound : Option ℕ) (MayAllocate : Type 0) (DecodesTo : Meaning → T → Type 0) (input : List ℕ) (result : Result (T × ℕ) DecodeError) : Type 0 where
   -- what is read is a word within the limit, of this length, and the value is given for its meaning
   pub word : IfOk result (λ x. IsDecoded F bound input (λ m. DecodesTo m x.0) x.1)
   -- each word within the limit is read,
-  pub found : AcceptsAll F bound (IsRefused MayAllocate) input result
+  pub found : AcceptsAll F bound (MayReportMemory MayAllocate) input result
   -- each fault within the limit is reported,
-  pub fault : ReportsFault (λ missing e. e ≡ UnexpectedEnd missing) F bound (IsRefused MayAllocate) input result
-  -- and charges that pass the limit are refused
-  pub limit : EnforcesLimit F bound (IsRefused MayAllocate) input result
+  pub fault : ReportsFault (λ missing e. e ≡ UnexpectedEnd missing) F bound (MayReportMemory MayAllocate) input result
+  -- and charges that pass the limit are refused; in place of these three it may be `Memory`, if decoding may allocate
+  pub limit : EnforcesLimit F bound (MayReportMemory MayAllocate) input result

@@ -3,6 +3,6 @@ use Rattle.std.specs.Prelude.{◌≡◌, ◌⊎◌}
 use Rattle.bincode_base.specs.declared.error.EncodeError.{EncodeError}
 use Rattle.bincode_base.specs.declared.error.EncodeError.TheVariants.{Memory}
 
--- memory was refused, or the error is the type's own
+-- the error is `Memory` or the type's own
 abbrev pub IsMemoryOrNamed : (EncodeError → Type 0) → EncodeError → Type 0
 IsMemoryOrNamed OwnErrors e = (e ≡ Memory) ⊎ OwnErrors e

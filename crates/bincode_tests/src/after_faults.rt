@@ -1,4 +1,4 @@
-//! How many bytes a reader has left after a fault: all that follow the input that is no word.
+//! How many bytes a reader has left after a fault: all that follow the invalid input.
 
 use crate::asserts::all_true;
 use crate::wrong_streams;

@@ -1,4 +1,4 @@
-//! What a test asserts of several answers, or of a table of rows with their labels.
+//! Assertions over several results, or over a table of rows with their labels.
 
 use std::process::Abort;
 use test_helpers::rows::first_false;

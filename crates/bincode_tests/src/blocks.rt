@@ -1,5 +1,6 @@
-//! Values that go to a stream in blocks of 512 bytes: by how many writes it gets them, what a full stream gets of them,
-//! and what the writer tells then. Expected bytes and counts come from docs/FORMAT.md and from the length of a block.
+//! Values that go to a stream in blocks of 512 bytes: by how many writes the stream gets them, what a full stream gets
+//! of them, and what the writer reports then. Expected bytes and counts come from docs/FORMAT.md and from the length of
+//! a block.
 
 use bincode::enc::BlockWriter;
 use bincode::error::EncodeError;

@@ -1,4 +1,4 @@
-//! Borrowed decoding: what is lent of the source, and a type of each kind.
+//! Borrowed decoding: what is borrowed from the source, and a type of each kind.
 
 use crate::asserts::{all_true, rows_hold};
 use bincode::borrow_decode_from_slice;

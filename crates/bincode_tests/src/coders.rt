@@ -1,4 +1,4 @@
-//! Encoders and decoders over a writer and a reader of one's own.
+//! Encoders and decoders over a user-defined writer and reader.
 
 use crate::asserts::rows_hold;
 use bincode::config;

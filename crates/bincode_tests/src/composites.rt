@@ -1,4 +1,4 @@
-//! Tuples, arrays, choices, ranges, durations and wrappers, of which the worked rows have some.
+//! Tuples, arrays, choices, ranges, durations and wrappers, of which the test vectors have some.
 
 use crate::asserts::{all_true, rows_hold};
 use crate::encodings::is_encoded;

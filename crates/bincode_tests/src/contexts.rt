@@ -1,4 +1,4 @@
-//! Decoders that are lent in another context.
+//! Decoders that are borrowed with another context.
 
 use bincode::config;
 use bincode::de::read::SliceReader;

@@ -1,4 +1,4 @@
-//! What encoding leaves after it fails in the middle, at a cell that is borrowed.
+//! What encoding leaves after it fails in the middle, at a cell that is mutably borrowed.
 
 use bincode::error::EncodeError;
 use bincode::{config, encode_into_slice, encode_to_vec};

@@ -1,4 +1,4 @@
-//! Hashed sets and maps: keys that come twice, a hasher of its own, and keys that are lent.
+//! Hashed sets and maps: keys that come twice, a user-defined hasher, and borrowed keys.
 
 use crate::asserts::rows_hold;
 use crate::encodings::is_encoded;

@@ -1,6 +1,6 @@
 //! What no contract of the library says: that a stream which is interrupted within a window is asked again, how a
-//! vector grows that has too little room, that a long value is not refused for its length, and that values are counted
-//! before they are made. Expected values come from docs/FORMAT.md and from what the calls promise in words.
+//! vector grows that has too little capacity, that a long value is not refused for its length, and that values are
+//! counted before they are made. Expected values come from docs/FORMAT.md and from what the calls promise in words.
 
 use crate::pieces::word_of;
 use bincode::checked::{encoded_length, round_trip_by_vec};

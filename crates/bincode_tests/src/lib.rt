@@ -1,6 +1,6 @@
 //! Tests of the library at scalars and composites; of its encoders, decoders, readers and writers, among them streams
-//! that take or give a part, files, and vectors that grow; of what a fault or a failed write leaves; of errors and
-//! contexts of one's own; and of public functions that no other test calls: what no contract says, and each `impl` and
+//! that take or give a part, files, and vectors that grow; of what a fault or a failed write leaves; of user-defined
+//! errors and contexts; and of public functions that no other test calls: what no contract says, and each `impl` and
 //! public call once, unless it runs elsewhere. Expected values come from the description of the format, and where a
 //! file says so from bincode 2.0.1.
 #![tactic(auto)]

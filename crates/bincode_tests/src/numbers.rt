@@ -1,4 +1,4 @@
-//! Numbers, truth values and characters: types that no worked row writes and reads, of the `NonZero` ones some; fixed
+//! Numbers, `bool` and characters: types that no test vector writes and reads, of the `NonZero` ones some; fixed
 //! numbers whose first byte would be a tag; and numbers that a buffer shows together.
 
 use crate::asserts::{all_true, rows_hold};

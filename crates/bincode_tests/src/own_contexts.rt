@@ -1,4 +1,4 @@
-//! Contexts of one's own: each call passes its context on, and uses it once for each value that asks for it.
+//! User-defined contexts: each call passes its context on, and uses it once for each value that asks for it.
 
 use bincode::de::{BorrowDecode, BorrowDecoder, BorrowedBytes, Decode, Decoder, Sequential};
 use bincode::error::DecodeError;

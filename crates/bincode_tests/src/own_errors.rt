@@ -1,4 +1,4 @@
-//! The errors for types of one's own, and what is left after them. The rows are those of bincode 2.0.1.
+//! The errors for user-defined types, and what remains after them. The rows are those of bincode 2.0.1.
 
 ghost use Rattle.bincode.specs.Encoding.{IsOwn};
 

@@ -1,4 +1,4 @@
-//! A reader that is lent a stream.
+//! A reader that borrows a stream.
 
 use bincode::config::Endianness;
 use bincode::de::LentIoReader;

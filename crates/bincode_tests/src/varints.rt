@@ -1,4 +1,4 @@
-//! The calls that write and read a number as a variable integer, each type once beside the worked rows.
+//! The calls that write and read a number as a variable integer, each type once beside the test vectors.
 
 use bincode::config::Endianness::Little;
 use bincode::de::read::{Reader, SliceReader};

@@ -1,4 +1,4 @@
-//! Writers into vectors, which begin without room and grow: no contract says that memory is there for more.
+//! Writers into vectors, which begin empty and grow: no contract says that memory is there for more.
 
 use bincode::enc::write::{VecWriter, Writer};
 use bincode::error::EncodeError;

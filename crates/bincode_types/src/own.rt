@@ -1,4 +1,4 @@
-//! Types that stand for types of the standard library.
+//! `Duration` and C strings, in place of the types of the standard library.
 
 pub mod ffi;
 pub mod time;

@@ -1,4 +1,4 @@
-//! What is answered to frames of each kind, and what a caller reads. The frames are those of docs/FORMAT.md, made by
+//! What is replied to frames of each kind, and what a caller reads. The frames are those of docs/STORES.md, made by
 //! Python.
 
 use crate::reply::Reply;

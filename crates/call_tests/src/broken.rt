@@ -1,4 +1,4 @@
-//! Streams that give and take few bytes a call, and break; and what a caller is told of bytes that are no reply. The
+//! Streams that give and take few bytes a call, and break; and what a caller reports of bytes that are no reply. The
 //! checks are Python's.
 
 use crate::answers::{MOST, ROWS, joined, settings};

@@ -1,5 +1,5 @@
-//! The tests of calls, over a service whose replies are of a generic enum: what frames of each kind get, what
-//! a caller reads, and memory that is refused.
+//! The tests of calls, over a service whose replies are of a generic enum: what frames of each kind get, what a caller
+//! reads, and allocations that fail.
 #![tactic(auto)]
 
 #[cfg(test)]

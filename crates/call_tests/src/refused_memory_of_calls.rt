@@ -1,4 +1,4 @@
-//! What is left of calls where an allocation is refused: each test passes whichever one it is.
+//! What calls leave where an allocation fails: each test passes whichever one it is.
 
 use crate::answers::{MOST, ROWS, settings};
 use crate::reply::Reply;

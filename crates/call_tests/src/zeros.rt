@@ -1,4 +1,4 @@
-//! A service that answers with zeros.
+//! A service that replies with zeros.
 ghost use Rattle.std.specs.Prelude.{◌≡◌, ℕ, length};
 ghost use Rattle.call_tests.specs.declared.reply.Reply.TheVariants.{Answer, Refused};
 

@@ -43,7 +43,7 @@ AreFramesOf (_ ∷ _) (Damage _ ∷ _) = ⊥
 AreFramesOf [] (_ ∷ _) = ⊥
 AreFramesOf (_ ∷ _) [] = ⊥
 
--- the input or the memory failed
+-- the error says that reading or an allocation failed: any such error
 abbrev pub IsOutsideCall : CallError → Type 0
 IsOutsideCall (errors.Send _) = ⊥
 IsOutsideCall (errors.Flush _) = ⊥

@@ -27,7 +27,7 @@ use Rattle.calls.specs.declared.serving.Step.TheVariants as steps
 abbrev pub HoldsFrame : ℕ → List ℕ → Type 0
 HoldsFrame most bytes = (4 ≤ length bytes) × ((most < named_length bytes) ⊎ (8 + named_length bytes ≤ length bytes))
 
--- memory was refused
+-- the error says that an allocation was refused: any such error
 abbrev pub IsMemory : AppendError → Type 0
 IsMemory (appending.Encode e) = e ≡ encoding.Memory
 IsMemory (appending.ReadBack e) = e ≡ decoding.Memory

@@ -1,5 +1,5 @@
 //! Remote calls over any two streams: requests come in frames, and each gets one answer in a frame, in order.
-//! docs/FORMAT.md has the format of frames and of answers.
+//! docs/STORES.md has the format of frames and of answers.
 #![tactic(auto)]
 
 pub mod calling;

@@ -1,4 +1,4 @@
-//! What is answered to a frame that holds no request, or one whose answer is too long.
+//! What is replied to a frame that holds no request, or one whose reply is too long.
 ghost use Rattle.std.specs.Prelude.{◌≡◌};
 ghost use Rattle.calls.specs.Refusals.{fault_of};
 
@@ -7,7 +7,7 @@ mod words;
 use bincode::error::DecodeError;
 use thiserror::Error;
 
-/// Why a frame gets no answer of the service. It is answered in its place; docs/FORMAT.md has its encoding.
+/// Why a frame gets no answer of the service. It is answered in its place; docs/STORES.md has its encoding.
 #[derive(Clone, Copy, Debug, Drop, Error, PartialEq)]
 pub enum Refusal {
     /// The check does not fit the length and the word.

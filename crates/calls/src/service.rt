@@ -1,4 +1,4 @@
-//! Services: what answers requests.
+//! Services: what replies to requests.
 ghost use Rattle.std.specs.Prelude.{◌≡◌, IfErr, IfOk};
 ghost use Rattle.calls.specs.declared.refusal.Refusal.{Refusal};
 

@@ -1,4 +1,4 @@
-//! The loop of a server: requests in frames from one stream, and their answers in frames to another.
+//! The loop of a server: requests in frames from one stream, and their replies in frames to another.
 ghost use Rattle.std.specs.Prelude.{◌≡◌, ◌↔◌, ◌+◌, ◌≤◌, ◌^◌, IfErr, IfOk, IsTrue, OnErr, OnOk, vec_len};
 ghost use Rattle.std.specs.Io.Buffered.{reader_remaining};
 ghost use Rattle.std.specs.Io.KnownBytes.{Keeps};

@@ -1,4 +1,4 @@
-//! Types of one's own that borrow bytes of the input.
+//! User-defined types that borrow bytes of the input.
 
 use bincode::config;
 use bincode::error::DecodeError;

@@ -4,12 +4,12 @@ use bincode::config::Config;
 use bincode::de::Decode;
 use bincode::enc::Encode;
 use bincode::error::{DecodeError, EncodeError};
-use bincode::{decode_from_std_read, encode_into_slice, encode_into_std_write};
-use conformance::calls::{Bytewise, Calls};
+use bincode::{decode_from_reader, decode_from_std_read, encode_into_slice, encode_into_std_write};
+use conformance::calls::{Buffered, Bytewise, Calls};
 use conformance::fault::Fault;
 use std::alloc::Global;
 use std::io;
-use std::io::{ErrorKind, Write};
+use std::io::{BufReader, ErrorKind, Write};
 use test_helpers::streams::{Breaking, is_broken};
 
 /// Streams that fail at their first call, at their second and so on, each with `Io`: the first answer that is not this
@@ -49,15 +49,54 @@ impl Calls for Broken {
                 return Some(outcome.map(|value| (value, calls)));
             }
         }
-        // A stream that ends in place of breaking gives no value, since that is to come with the last of its bytes.
-        match Bytewise::decode::<T, C>(alloc, input, config) {
-            Some(Err(error)) => Some(Err(error)),
-            _ => None,
-        }
+        fails_at_the_end::<Bytewise, T, C>(alloc, input, config)
     }
 
     fn fault(error: &DecodeError) -> Option<Fault> {
         Fault::of_stream(error)
+    }
+}
+
+/// Decoding from a `BufReader` of 4 bytes over such streams.
+pub struct BrokenBuffered;
+
+impl Calls for BrokenBuffered {
+    fn decode<T: Decode<()>, C: Config>(
+        alloc: Global,
+        input: &[u8],
+        config: C,
+    ) -> Option<Result<(T, usize), DecodeError>> {
+        for calls in 0..=input.len() {
+            let stream = Breaking {
+                bytes: input,
+                calls,
+            };
+            let Ok(mut reader) = BufReader::with_capacity(alloc, 4, stream) else {
+                return Some(Err(DecodeError::Memory));
+            };
+            let outcome: Result<T, DecodeError> = decode_from_reader(alloc, &mut reader, config);
+            if !is_broken(&outcome) {
+                return Some(outcome.map(|value| (value, calls)));
+            }
+        }
+        fails_at_the_end::<Buffered<4>, T, C>(alloc, input, config)
+    }
+
+    fn fault(error: &DecodeError) -> Option<Fault> {
+        Fault::of_stream(error)
+    }
+}
+
+/// The error of a stream that ends in place of breaking: it gives no value, since that is to come with the last of its
+/// bytes.
+fn fails_at_the_end<K: Calls, T: Decode<()>, C: Config>(
+    alloc: Global,
+    input: &[u8],
+    config: C,
+) -> Option<Result<(T, usize), DecodeError>> {
+    match K::decode::<T, C>(alloc, input, config) {
+        Some(Err(error)) => Some(Err(error)),
+        _ => None,
     }
 }
 

@@ -1,4 +1,4 @@
-//! Encodings of the worked rows: cut at each place, and with another first byte of a number, a length or a tag.
+//! Encodings of the test vectors: cut at each place, and with another first byte of a number, a length or a tag.
 
 use crate::encodings::Outcome::{Ends, NoVariant, Passed, Read, Wide};
 use crate::encodings::{Kind, LISTS, Outcome, Row, SCALARS, WHOLES};
@@ -78,6 +78,7 @@ fn read_as<L: InternalLimitConfig + Copy>(
         Kind::I64 => taken::<i64, _>(alloc, config, input),
         Kind::I128 => taken::<i128, _>(alloc, config, input),
         Kind::Char => taken::<char, _>(alloc, config, input),
+        Kind::Unit => taken::<(), _>(alloc, config, input),
         Kind::Five => taken::<(u8, u32, i128, char, [u8; 4]), _>(alloc, config, input),
         Kind::Pair => taken::<(u8, u32), _>(alloc, config, input),
         Kind::TwoU32 => taken::<(u32, u32), _>(alloc, config, input),

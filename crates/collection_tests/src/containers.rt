@@ -5,11 +5,13 @@ use crate::maps::{keeps_hashed, keeps_map, keeps_set};
 use crate::texts::{FACE, shared_text, text};
 use bincode::config;
 use bincode::error::DecodeError;
+use bincode::ffi::CString;
 use own_types::batch::Batch;
 use std::alloc::{AllocError, Global};
 use std::borrow::{Cow, CowSlice, CowStr};
 use std::boxed::{BoxedSlice, BoxedStr};
 use std::collections::{BTreeSet, BinaryHeap, VecDeque};
+use std::path::PathBuf;
 use std::rc::{Rc, RcSlice};
 use std::sync::Arc;
 use test_helpers::checks::{
@@ -123,6 +125,22 @@ fn keeps_texts(alloc: Global, count: u32) -> [(&'static str, bool); 4] {
     ]
 }
 
+/// A C string of the bytes of so many characters, of which none is zero.
+fn c_string(alloc: Global, count: u32) -> Option<CString> {
+    CString::new(text(alloc, count)?.into_bytes()).ok()
+}
+
+/// Whether the path and the C string of so many characters of four bytes are kept.
+fn keeps_paths_and_c_strings(alloc: Global, count: u32) -> [(&'static str, bool); 2] {
+    [
+        (
+            "PathBuf",
+            keeps_value(alloc, text(alloc, count).map(PathBuf::from)),
+        ),
+        ("CString", keeps_value(alloc, c_string(alloc, count))),
+    ]
+}
+
 /// Whether each pointer to a number, a list or a text is kept, and what may be borrowed.
 fn keeps_pointers(alloc: Global) -> [(&'static str, bool); 7] {
     let slice: CowSlice<'_, u32> = CowSlice::Borrowed(&[1, 300, 7]);
@@ -152,6 +170,7 @@ fn keeps_a_value_of_each_type(rt: HostRuntime) {
     let alloc = rt.alloc();
     all_hold(&rt, &keeps_lists(alloc, 300));
     all_hold(&rt, &keeps_texts(alloc, 300));
+    all_hold(&rt, &keeps_paths_and_c_strings(alloc, 300));
     all_hold(&rt, &keeps_pointers(alloc));
     all_hold(
         &rt,
@@ -241,7 +260,10 @@ fn reads_pointers(alloc: Global) -> bool {
 fn keeps_far_character(alloc: Global) -> bool {
     let encoding = [4, 240, 159, 152, 128];
     fills(&FACE, &encoding)
-        && matches!(read_word::<String>(alloc, &encoding), Some(text) if text.as_str() == FACE)
+        && match read_word::<String>(alloc, &encoding) {
+            Some(text) => text.as_str() == FACE && fills(&text, &encoding),
+            None => false,
+        }
 }
 
 #[test]

@@ -1,4 +1,4 @@
-//! How often a user's list is begun, and for how many items.
+//! How often a user-defined list is begun, and for how many items.
 
 use bincode::config;
 use bincode::de::read::SliceReader;

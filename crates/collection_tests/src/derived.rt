@@ -1,4 +1,4 @@
-//! Words of the types of `derived_types`, worked out by hand: read, and written again.
+//! Encodings of the types of `derived_types`, worked out by hand: read, and written again.
 
 use crate::asserts::all_true;
 use bincode::error::DecodeError;

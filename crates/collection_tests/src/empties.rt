@@ -12,7 +12,7 @@ use std::alloc::Global;
 use std::borrow::{CowSlice, CowStr};
 use std::boxed::{BoxedSlice, BoxedStr};
 use std::collections::{BTreeMap, BTreeSet, BinaryHeap, HashMap, HashSet, VecDeque};
-use std::path::PathBuf;
+use std::path::{Path, PathBuf};
 use std::rc::{RcSlice, RcStr};
 use std::sync::Arc;
 use test_helpers::checks::{is_passed, within};
@@ -21,10 +21,10 @@ use test_helpers::checks::{is_passed, within};
 const NONE: [u8; 2] = [0, 9];
 
 /// A length of 2^64 - 1, after which nothing stands.
-const HUGE: [u8; 9] = [253, 255, 255, 255, 255, 255, 255, 255, 255];
+static HUGE: [u8; 9] = [253, 255, 255, 255, 255, 255, 255, 255, 255];
 
 /// A length of 100000, after which nothing stands.
-const LONG: [u8; 5] = [252, 160, 134, 1, 0];
+static LONG: [u8; 5] = [252, 160, 134, 1, 0];
 
 /// What comes of the bytes within a limit of 100000, at the first call.
 fn read<T: Decode<()>>(alloc: Global, bytes: &[u8]) -> Result<usize, bool> {
@@ -42,6 +42,19 @@ fn refuses_lengths<T: Decode<()>>(alloc: Global) -> bool {
 /// Whether nothing is read, and the two lengths exceed the limit.
 fn reads_none<T: Decode<()>>(alloc: Global) -> bool {
     read::<T>(alloc, &NONE) == Ok(1) && refuses_lengths::<T>(alloc)
+}
+
+/// What comes of the bytes by borrowed decoding within a limit of 100000, at the first call.
+fn lend<T: BorrowDecode<&'static [u8], ()>>(
+    alloc: Global,
+    source: &'static [u8],
+) -> Result<(T, usize), DecodeError> {
+    borrow_decode_from_slice(alloc, source, config::standard().with_limit::<100_000>())
+}
+
+/// Whether the two lengths exceed the limit by borrowed decoding.
+fn lends_none<T: BorrowDecode<&'static [u8], ()>>(alloc: Global) -> bool {
+    is_passed(lend::<T>(alloc, &HUGE)) && is_passed(lend::<T>(alloc, &LONG))
 }
 
 /// hostile lengths of each container
@@ -75,6 +88,38 @@ fn reads_nothing_and_refuses_lengths_without_memory(rt: HostRuntime) {
             ("CowStr", reads_none::<CowStr<'static>>(alloc)),
             ("CString", reads_none::<CString>(alloc)),
             ("PathBuf", reads_none::<PathBuf>(alloc)),
+        ],
+    );
+    all_hold(
+        &rt,
+        &[
+            ("Vec, borrowed", lends_none::<Vec<u32>>(alloc)),
+            ("Vec of bytes, borrowed", lends_none::<Vec<u8>>(alloc)),
+            ("VecDeque, borrowed", lends_none::<VecDeque<u32>>(alloc)),
+            ("BinaryHeap, borrowed", lends_none::<BinaryHeap<u32>>(alloc)),
+            ("BoxedSlice, borrowed", lends_none::<BoxedSlice<u32>>(alloc)),
+            ("RcSlice, borrowed", lends_none::<RcSlice<u32>>(alloc)),
+            ("Arc of a Vec, borrowed", lends_none::<Arc<Vec<u32>>>(alloc)),
+            (
+                "CowSlice, borrowed",
+                lends_none::<CowSlice<'static, u8>>(alloc),
+            ),
+            ("BTreeSet, borrowed", lends_none::<BTreeSet<u32>>(alloc)),
+            (
+                "BTreeMap, borrowed",
+                lends_none::<BTreeMap<u32, u32>>(alloc),
+            ),
+            ("HashSet, borrowed", lends_none::<HashSet<u32>>(alloc)),
+            ("HashMap, borrowed", lends_none::<HashMap<u32, u32>>(alloc)),
+            ("String, borrowed", lends_none::<String>(alloc)),
+            ("BoxedStr, borrowed", lends_none::<BoxedStr>(alloc)),
+            ("RcStr, borrowed", lends_none::<RcStr>(alloc)),
+            ("CowStr, borrowed", lends_none::<CowStr<'static>>(alloc)),
+            ("CString, borrowed", lends_none::<CString>(alloc)),
+            ("PathBuf, borrowed", lends_none::<PathBuf>(alloc)),
+            ("&str", lends_none::<&'static str>(alloc)),
+            ("&[u8]", lends_none::<&'static [u8]>(alloc)),
+            ("Path", lends_none::<Path<'static>>(alloc)),
         ],
     );
 }

@@ -1,4 +1,4 @@
-//! Encodings of the worked rows, and what is expected where the first byte of a number, a length or a tag is another.
+//! Encodings of the test vectors, and what is expected where the first byte of a number, a length or a tag is another.
 
 use self::Outcome::{Ends, NoVariant, Passed, Read, Wide};
 use bincode::error::IntegerType;
@@ -20,6 +20,7 @@ pub enum Kind {
     I64,
     I128,
     Char,
+    Unit,
     /// The tuple of five parts.
     Five,
     /// A `u8` and a `u32`.
@@ -85,7 +86,8 @@ pub struct Row {
 /// The bytes of an IPv6 socket address: ::1 and the port 12345.
 const SOCKET: [u8; 19] = [0, 0, 0, 0, 0, 0, 0, 0, 0, 0, 0, 0, 0, 0, 0, 1, 251, 57, 48];
 
-/// A length whose bytes after a tag of 16, 32 or 64 bits are not all there, or not as many items as it says.
+/// A length whose bytes after a tag of 16, 32 or 64 bits are not all there, or not as many items as it says; or a `u64`
+/// that is cut so.
 const SHORT: &[Outcome] = &[Ends, Ends, Ends, Wide(U64, U128), Wide(U64, Reserved)];
 
 /// A length that is too great where it has 32 bits, and cut where it has 64.
@@ -113,6 +115,42 @@ const SHORT_SIGNED: &[Outcome] = &[
     Wide(I16, I64),
     Wide(I16, I128),
     Wide(I16, Reserved),
+];
+
+/// A `u16` of one byte, after which nothing stands.
+const LAST_NUMBER: &[Outcome] = &[
+    Ends,
+    Wide(U16, U32),
+    Wide(U16, U64),
+    Wide(U16, U128),
+    Wide(U16, Reserved),
+];
+
+/// An `i16` of one byte, after which nothing stands.
+const LAST_SIGNED: &[Outcome] = &[
+    Ends,
+    Wide(I16, IntegerType::I32),
+    Wide(I16, I64),
+    Wide(I16, I128),
+    Wide(I16, Reserved),
+];
+
+/// A `u32` whose bytes after a tag of 16 or 32 bits are not all there, or not what has to follow it.
+const CUT_NUMBER: &[Outcome] = &[
+    Ends,
+    Ends,
+    Wide(U32, U64),
+    Wide(U32, U128),
+    Wide(U32, Reserved),
+];
+
+/// A `u16` of a list, of whose word six bytes are read then.
+const NUMBER_IN_SIX: &[Outcome] = &[
+    Read(6),
+    Wide(U16, U32),
+    Wide(U16, U64),
+    Wide(U16, U128),
+    Wide(U16, Reserved),
 ];
 
 /// A `u32` of three bytes.
@@ -143,7 +181,7 @@ const NO_ADDRESS: &[Outcome] = &[
 ];
 
 /// The rows of scalars.
-pub static SCALARS: [Row; 23] = [
+pub static SCALARS: [Row; 26] = [
     Row {
         label: "2",
         kind: Kind::LegacyBigU32,
@@ -154,7 +192,7 @@ pub static SCALARS: [Row; 23] = [
         label: "3a",
         kind: Kind::I16,
         encoding: &[1],
-        tags: &[],
+        tags: &[(0, LAST_SIGNED)],
     },
     Row {
         label: "3b",
@@ -214,13 +252,13 @@ pub static SCALARS: [Row; 23] = [
         label: "4c",
         kind: Kind::U16,
         encoding: &[10],
-        tags: &[],
+        tags: &[(0, LAST_NUMBER)],
     },
     Row {
         label: "5a",
         kind: Kind::U32,
         encoding: &[250],
-        tags: &[],
+        tags: &[(0, CUT_NUMBER)],
     },
     Row {
         label: "5b",
@@ -334,16 +372,34 @@ pub static SCALARS: [Row; 23] = [
         ],
     },
     Row {
-        label: "18, Cell",
+        label: "18, Cell of 5",
+        kind: Kind::CellU32,
+        encoding: &[5],
+        tags: &[(0, CUT_NUMBER)],
+    },
+    Row {
+        label: "18, Cell of 300",
         kind: Kind::CellU32,
         encoding: &[251, 44, 1],
         tags: &[(0, THREE_BYTES)],
     },
     Row {
-        label: "18, RefCell",
+        label: "18, RefCell of 5",
+        kind: Kind::RefCellU32,
+        encoding: &[5],
+        tags: &[(0, CUT_NUMBER)],
+    },
+    Row {
+        label: "18, RefCell of 300",
         kind: Kind::RefCellU32,
         encoding: &[251, 44, 1],
         tags: &[(0, THREE_BYTES)],
+    },
+    Row {
+        label: "21a",
+        kind: Kind::Unit,
+        encoding: &[],
+        tags: &[],
     },
     Row {
         label: "25b",
@@ -359,13 +415,25 @@ pub static WHOLES: [Row; 11] = [
         label: "1",
         kind: Kind::Five,
         encoding: &[0, 10, 251, 32, 78, 97, 0, 1, 2, 3],
-        tags: &[(2, &[Read(10), Ends, Ends, Ends, Wide(I128, Reserved)])],
+        tags: &[
+            (
+                1,
+                &[
+                    Read(10),
+                    Ends,
+                    Wide(U32, U64),
+                    Wide(U32, U128),
+                    Wide(U32, Reserved),
+                ],
+            ),
+            (2, &[Read(10), Ends, Ends, Ends, Wide(I128, Reserved)]),
+        ],
     },
     Row {
         label: "10b",
         kind: Kind::TwoU64,
         encoding: &[5, 6],
-        tags: &[],
+        tags: &[(0, SHORT), (1, SHORT)],
     },
     Row {
         label: "16a",
@@ -413,7 +481,7 @@ pub static WHOLES: [Row; 11] = [
         label: "20a",
         kind: Kind::TwoU32,
         encoding: &[5, 10],
-        tags: &[],
+        tags: &[(0, CUT_NUMBER), (1, CUT_NUMBER)],
     },
     Row {
         label: "22a",
@@ -431,16 +499,7 @@ pub static WHOLES: [Row; 11] = [
         label: "23a",
         kind: Kind::Bound,
         encoding: &[2, 7],
-        tags: &[(
-            0,
-            &[
-                Ends,
-                Ends,
-                Wide(U32, U64),
-                Wide(U32, U128),
-                Wide(U32, Reserved),
-            ],
-        )],
+        tags: &[(0, CUT_NUMBER)],
     },
     Row {
         label: "26a",
@@ -451,16 +510,8 @@ pub static WHOLES: [Row; 11] = [
                 1,
                 &[Passed, Passed, Ends, Wide(U64, U128), Wide(U64, Reserved)],
             ),
-            (
-                3,
-                &[
-                    Read(6),
-                    Wide(U16, U32),
-                    Wide(U16, U64),
-                    Wide(U16, U128),
-                    Wide(U16, Reserved),
-                ],
-            ),
+            (2, NUMBER_IN_SIX),
+            (3, NUMBER_IN_SIX),
         ],
     },
 ];
@@ -519,7 +570,12 @@ pub static LISTS: [Row; 10] = [
         label: "24",
         kind: Kind::ArenaList,
         encoding: &[3, 1, 2, 3],
-        tags: &[(0, SHORT)],
+        tags: &[
+            (0, SHORT),
+            (1, CUT_NUMBER),
+            (2, CUT_NUMBER),
+            (3, CUT_NUMBER),
+        ],
     },
     Row {
         label: "25g",

@@ -1,4 +1,4 @@
-//! A value whose word is longer than it was when it was counted.
+//! A value whose encoding is longer than it was when it was counted.
 
 use bincode::alloc::encode_to_vec;
 use bincode::enc::Encoder;

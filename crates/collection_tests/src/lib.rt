@@ -1,5 +1,5 @@
-//! Tests of the library at types that own memory, and at users' own types, lists, readers and writers. Expected values
-//! come from the description of the format.
+//! Tests of the library at types that own memory, and at user-defined types, lists, readers and writers. Expected
+//! values come from the description of the format.
 #![tactic(auto)]
 
 #[cfg(test)]

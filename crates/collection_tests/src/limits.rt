@@ -1,4 +1,4 @@
-//! What lists claim of a limit and when, and room that cannot be.
+//! What lists claim of a limit and when, and capacities that cannot be.
 
 use crate::asserts::all_hold;
 use bincode::config;
@@ -89,8 +89,11 @@ fn claims_for_what_lists_hold(rt: HostRuntime) {
             ),
             (
                 "lists in lists, limits 39 and 40",
-                is_passed(within::<Vec<Vec<Vec<u8>>>, 39>(alloc, &[1, 1, 0]))
-                    && is_one_in_one(decoded(alloc, &[1, 1, 0], config.with_limit::<40>())),
+                is_passed::<(Vec<Vec<Vec<u8>>>, usize)>(decoded(
+                    alloc,
+                    &[1, 1, 0],
+                    config.with_limit::<39>(),
+                )) && is_one_in_one(decoded(alloc, &[1, 1, 0], config.with_limit::<40>())),
             ),
             (
                 "four billion lists",

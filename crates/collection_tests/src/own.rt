@@ -1,4 +1,4 @@
-//! Types of one's own, written and read.
+//! User-defined types, written and read.
 
 use crate::asserts::{all_hold, all_true};
 use bincode::checked::{RoundTrip, round_trip};
@@ -23,7 +23,8 @@ use own_types::table::Table;
 use own_types::track::Track;
 use std::alloc::Global;
 use test_helpers::checks::{
-    decoded, each_call_keeps, ends_at_each_place, fault_of, fills, is_passed, refuses_tag, within,
+    borrowed, decoded, each_call_keeps, ends_at_each_place, fault_of, fills, is_passed,
+    refuses_tag, within,
 };
 
 /// Whether this is a word of the type for each call, with bytes after it, and no prefix of it is one.
@@ -132,10 +133,19 @@ fn is_read<T: Decode<()>, const N: usize>(alloc: Global, word: &[u8]) -> bool {
     matches!(outcome, Ok((_, taken)) if taken == word.len())
 }
 
-/// Whether the type is a list of lists of bytes: that one of two bytes charges 32 at most.
+/// A list of seventeen sevens and an empty list, in a list.
+const SEVENS: [u8; 20] = [2, 17, 7, 7, 7, 7, 7, 7, 7, 7, 7, 7, 7, 7, 7, 7, 7, 7, 7, 0];
+
+/// Whether the type is a list of lists of bytes: one of two bytes charges 32 at most. And the claim of each list is
+/// released where it begins, not that of all of them before: the first of two charges 57 with its seventeen bytes, of
+/// which 24 are the claim of the second.
 fn is_list_of_lists<T: Decode<()>>(alloc: Global) -> bool {
     let word = [1, 2, 7, 8];
-    is_passed(within::<T, 31>(alloc, &word)) && is_read::<T, 32>(alloc, &word)
+    let config = config::standard();
+    is_passed(within::<T, 31>(alloc, &word))
+        && is_read::<T, 32>(alloc, &word)
+        && is_passed::<(T, usize)>(decoded(alloc, &SEVENS, config.with_limit::<56>()))
+        && is_read::<T, 57>(alloc, &SEVENS)
 }
 
 #[test]
@@ -207,12 +217,14 @@ fn keeps_each_code(rt: HostRuntime) {
                         decoded(alloc, &refused, config::standard()),
                         Ok((Code::Refused, 3))
                     )
+                    && matches!(borrowed(alloc, &refused), Ok((Code::Refused, 3)))
                     && has_word::<Code>(alloc, &[5])
                     && Code::claim_size() == 4,
             ),
             (
                 "a code that is none",
-                lists_tags(fault_of::<Code>(alloc, &[2])),
+                lists_tags(fault_of::<Code>(alloc, &[2]))
+                    && lists_tags(borrowed::<Code>(alloc, &[2]).err()),
             ),
         ],
     );
@@ -226,15 +238,22 @@ fn is_empty_enum<T: Drop>(outcome: Result<T, DecodeError>, name: &str) -> bool {
     type_name.as_str() == name
 }
 
+/// The result of borrowed decoding under a limit.
+fn lent_within<'a, T: BorrowDecode<&'a [u8], ()>, const N: usize>(
+    alloc: Global,
+    source: &'a [u8],
+) -> Result<(T, usize), DecodeError> {
+    borrow_decode_from_slice(alloc, source, config::standard().with_limit::<N>())
+}
+
 /// Whether the type has no values: decoding in both ways within 0 fails with its name.
 fn has_no_values<'a, T: Decode<()> + BorrowDecode<&'a [u8], ()>>(
     alloc: Global,
     source: &'a [u8],
     name: &str,
 ) -> bool {
-    let config = config::standard().with_limit::<0>();
-    let lent: Result<(T, usize), DecodeError> = borrow_decode_from_slice(alloc, source, config);
-    is_empty_enum(within::<T, 0>(alloc, source), name) && is_empty_enum(lent, name)
+    is_empty_enum(within::<T, 0>(alloc, source), name)
+        && is_empty_enum(lent_within::<T, 0>(alloc, source), name)
 }
 
 /// Whether this is an error of a type's own with this text.
@@ -260,6 +279,8 @@ fn refuses_what_has_no_value(rt: HostRuntime) {
                 "an even number, limits 0 and 1",
                 is_passed(within::<Even, 0>(alloc, &[3]))
                     && is_other(within::<Even, 1>(alloc, &[3]), "odd")
+                    && is_passed(lent_within::<Even, 0>(alloc, &[3]))
+                    && is_other(lent_within::<Even, 1>(alloc, &[3]), "odd")
                     && has_word::<Even>(alloc, &[4])
                     && Even::claim_size() == 1,
             ),

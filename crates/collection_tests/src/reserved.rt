@@ -1,4 +1,4 @@
-//! What is reserved for a list: the room that its length claims, no more, and nothing before the claim.
+//! What is reserved for a list: the capacity that its length claims, no more, and nothing before the claim.
 
 use crate::asserts::all_true;
 use bincode::config;

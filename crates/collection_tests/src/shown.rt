@@ -113,9 +113,14 @@ fn first_otherwise<T: Decode<()> + PartialEq + Copy>(
     None
 }
 
-static BYTES: [Row<u8>; 1] = [("251u8", Little, &[251], Number(251, 1))];
+static BYTES: [Row<u8>; 2] = [
+    ("251u8", Little, &[251], Number(251, 1)),
+    ("0u8", Little, &[0], Number(0, 1)),
+];
 
-static U16S: [Row<u16>; 7] = [
+static U16S: [Row<u16>; 9] = [
+    ("5u16", Little, &[5], Number(5, 1)),
+    ("12345u16", Little, &[251, 57, 48], Number(12_345, 3)),
     ("2560u16", Little, &[251, 0, 10], Number(2_560, 3)),
     ("10u16, big endian", Big, &[251, 0, 10], Number(10, 3)),
     ("10u16", Little, &[10], Number(10, 1)),
@@ -140,7 +145,22 @@ static U16S: [Row<u16>; 7] = [
     ),
 ];
 
-static U32S: [Row<u32>; 4] = [
+static U32S: [Row<u32>; 9] = [
+    ("5u32", Little, &[5], Number(5, 1)),
+    ("10u32", Little, &[10], Number(10, 1)),
+    ("300u32", Little, &[251, 44, 1], Number(300, 3)),
+    (
+        "1000000000u32",
+        Little,
+        &[252, 0, 202, 154, 59],
+        Number(1_000_000_000, 5),
+    ),
+    (
+        "1000000300u32",
+        Little,
+        &[252, 44, 203, 154, 59],
+        Number(1_000_000_300, 5),
+    ),
     ("250u32", Little, &[250], Number(250, 1)),
     ("251u32", Little, &[251, 251, 0], Number(251, 3)),
     ("65535u32", Little, &[251, 255, 255], Number(65_535, 3)),
@@ -152,7 +172,33 @@ const EIGHT: [u8; 9] = [253, 0, 0, 0, 0, 0, 0, 0, 10];
 
 const SIXTEEN: [u8; 17] = [254, 0, 0, 0, 0, 0, 0, 0, 0, 0, 0, 0, 0, 0, 0, 0, 10];
 
-static U64S: [Row<u64>; 4] = [
+static U64S: [Row<u64>; 10] = [
+    ("5u64", Little, &[5], Number(5, 1)),
+    ("6u64", Little, &[6], Number(6, 1)),
+    (
+        "100000u64",
+        Little,
+        &[252, 160, 134, 1, 0],
+        Number(100_000, 5),
+    ),
+    (
+        "4294967295u64",
+        Little,
+        &[252, 255, 255, 255, 255],
+        Number(4_294_967_295, 5),
+    ),
+    (
+        "4294967296u64",
+        Little,
+        &[253, 0, 0, 0, 0, 1, 0, 0, 0],
+        Number(4_294_967_296, 9),
+    ),
+    (
+        "the greatest u64",
+        Little,
+        &[253, 255, 255, 255, 255, 255, 255, 255, 255],
+        Number(u64::MAX, 9),
+    ),
     (
         "10u64 times 2^56",
         Little,
@@ -242,12 +288,15 @@ static I64S: [Row<i64>; 2] = [
     ),
 ];
 
-static I128S: [Row<i128>; 1] = [(
-    "11 times 10^18 as an i128",
-    Little,
-    &[254, 0, 0, 152, 98, 112, 179, 79, 49, 1, 0, 0, 0, 0, 0, 0, 0],
-    Number(11_000_000_000_000_000_000, 17),
-)];
+static I128S: [Row<i128>; 2] = [
+    ("10000i128", Little, &[251, 32, 78], Number(10_000, 3)),
+    (
+        "11 times 10^18 as an i128",
+        Little,
+        &[254, 0, 0, 152, 98, 112, 179, 79, 49, 1, 0, 0, 0, 0, 0, 0, 0],
+        Number(11_000_000_000_000_000_000, 17),
+    ),
+];
 
 static ISIZES: [Row<isize>; 1] = [(
     "an isize with the tag of 128 bits",
@@ -256,12 +305,13 @@ static ISIZES: [Row<isize>; 1] = [(
     Wide(Isize, I128),
 )];
 
-/// Whether the numbers that have a setting of their own are told alike: one of four bytes, and three under a limit.
+/// Whether the numbers that have a setting of their own are told alike: two of four bytes, and three under a limit.
 fn tells_other_settings(alloc: Global) -> bool {
     let fixed = config::legacy().with_big_endian();
     let standard = config::standard();
     let zero: Told<NonZeroU16> = Zero(U16);
     is_told_through_each(alloc, &[0, 0, 0, 5], fixed, Number(5u32, 4))
+        && is_told_through_each(alloc, &[5, 0, 0, 0], config::legacy(), Number(5u32, 4))
         && is_told_through_each(
             alloc,
             &[251, 0, 1],

@@ -1,13 +1,15 @@
-//! The tables of worked rows by the calls for slices, for streams and for shapes.
+//! The tables of test vectors by the calls for slices, for streams and for shapes.
 
-use crate::broken::Broken;
+use crate::broken::{Broken, BrokenBuffered};
 use crate::by_shape::ByShape;
-use bincode::config::Endianness;
+use bincode::config::{self, Endianness};
+use bincode::de::Decode;
 use conformance::calls::{Buffered, Bytewise, Calls, Slice};
 use conformance::case::{Case, Encoding, Number, Spelling, Value};
 use conformance::rows::{Row, run, tables, trailing_cases};
 use conformance::setting::{LegacyBig, Standard};
 use std::alloc::Global;
+use std::cell::{Cell, RefCell};
 use std::io;
 use test_helpers::checks::either;
 
@@ -97,19 +99,48 @@ fn all_hold<K: Calls>(alloc: Global) -> bool {
     either(failures::<K>(alloc), failures::<K>(alloc)) == Some(0)
 }
 
+/// What these calls decode of an encoding, if they take all of its bytes.
+fn whole<K: Calls, T: Decode<()>>(alloc: Global, encoding: &[u8]) -> Option<T> {
+    match K::decode(alloc, encoding, config::standard()) {
+        Some(Ok((value, taken))) if taken == encoding.len() => Some(value),
+        _ => None,
+    }
+}
+
+/// Whether these calls decode an encoding as a cell of the number, and as one that is not borrowed.
+fn are_cells<K: Calls>(alloc: Global, encoding: &[u8], number: u32) -> bool {
+    let cell = whole::<K, Cell<u32>>(alloc, encoding);
+    let shared = whole::<K, RefCell<u32>>(alloc, encoding);
+    match (cell, shared) {
+        (Some(cell), Some(shared)) => {
+            cell.get() == number && shared.try_borrow_mut().is_ok() && shared.into_inner() == number
+        }
+        _ => false,
+    }
+}
+
+/// Whether the cells of 5 and of 300, which are no part of the tables, are decoded by these calls.
+fn keeps_cells<K: Calls>(alloc: Global) -> bool {
+    are_cells::<K>(alloc, &[5], 5) && are_cells::<K>(alloc, &[251, 44, 1], 300)
+}
+
 /// each row byte by byte: those of an owned type through a stream of one byte a call, and through a `BufReader` of 4
 /// bytes over it. The values and counts are the same, and `Io` comes for each `UnexpectedEnd`.
 #[test]
 fn reads_the_rows_from_streams(rt: HostRuntime) {
     let alloc = rt.alloc();
-    assert!(rt; all_hold::<Bytewise>(alloc));
+    assert!(rt; all_hold::<Bytewise>(alloc) && keeps_cells::<Bytewise>(alloc));
     assert!(rt; all_hold::<Buffered<4>>(alloc));
+    assert!(rt; keeps_cells::<Buffered<4>>(alloc) || keeps_cells::<Buffered<4>>(alloc));
 }
 
-/// a stream that fails at each call: a read that fails at any place before the last byte is an `Io`, and so is a write.
+/// a stream that fails at each call: a read that fails at any place before the last byte is an `Io`, also below a
+/// `BufReader`, and so is a write.
 #[test]
 fn fails_with_the_stream(rt: HostRuntime) {
-    assert!(rt; all_hold::<Broken>(rt.alloc()));
+    let alloc = rt.alloc();
+    assert!(rt; all_hold::<Broken>(alloc) && keeps_cells::<Broken>(alloc));
+    assert!(rt; all_hold::<BrokenBuffered>(alloc));
 }
 
 /// each row by its shape: the 56 whose type is described, by the type and by `Described::shape`, with the same bytes,

@@ -1,4 +1,4 @@
-//! Writing over a line that is cut, and into a fixed room.
+//! Writing over a line that is cut, and into a fixed capacity.
 
 use bincode::checked::encoded_length;
 use bincode::enc::{Encode, Encoder, EncoderImpl};

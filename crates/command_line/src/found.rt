@@ -1,4 +1,4 @@
-//! What was found in the words of a command line.
+//! What was found in the arguments of a command line.
 
 use std::alloc::{AllocError, Global};
 

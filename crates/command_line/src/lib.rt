@@ -1,4 +1,4 @@
-//! The command lines of programs, each stated as a table of its words and commands.
+//! The command lines of programs, each described by a table of its arguments and commands.
 #![tactic(auto)]
 
 mod commands;

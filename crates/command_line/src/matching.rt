@@ -1,4 +1,4 @@
-//! What words say by the table of a program, and the errors of mistakes in them.
+//! What arguments mean by the table of a program, and the errors of mistakes in them.
 ghost use Rattle.std.specs.Prelude.{◌≡◌, IfOk};
 ghost use Rattle.clap.specs.Values.{kind_of};
 

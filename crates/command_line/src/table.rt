@@ -1,4 +1,4 @@
-//! What a command line is stated as: tables of words and commands.
+//! How a command line is described: by tables of arguments and commands.
 
 /// The command line of a program.
 pub struct Program {

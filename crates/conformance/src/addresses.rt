@@ -1,4 +1,4 @@
-//! Addresses with a port, by their parts.
+//! Addresses with a port, by address and port.
 
 use std::net::{Ipv6Addr, SocketAddrV6};
 

@@ -1,4 +1,4 @@
-//! A device in memory, which can be told to crash, for tests.
+//! A device in memory, for tests, which crashes where a test wants it.
 ghost use Rattle.std.specs.Prelude.{◌≡◌, ◌≤◌, ◌<◌, [], ◌∷◌, ◌++◌, length, take, IfOk, OnErr, OnOk, Some, None};
 ghost use Rattle.std.specs.Prelude.{vec_capacity, vec_len};
 ghost use Rattle.crash_device.specs.declared.device.DeviceError.TheVariants.{Memory as OutOfMemory, Failed};

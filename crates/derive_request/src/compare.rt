@@ -1,4 +1,4 @@
-//! Whether a module that was written is still what would be written now.
+//! Whether a module that was written is still the one that would be written now.
 ghost use Rattle.std.specs.Prelude.{◌≡◌, IfOk, None};
 
 use derive_words::tokens::tokens_of;

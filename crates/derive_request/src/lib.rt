@@ -1,4 +1,4 @@
-//! What the program `derive` does: which words it is given, what is written, what is said, and the status.
+//! What the program `derive` does: its arguments, what it writes, what it prints, and the status.
 #![tactic(auto)]
 
 pub mod compare;

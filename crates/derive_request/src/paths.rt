@@ -1,4 +1,4 @@
-//! Where the file of a source stands, and where its module goes.
+//! Where the file of a source is, and where its module goes.
 
 use std::alloc::{AllocError, Global};
 

@@ -15,7 +15,7 @@ use thiserror::Error;
 #[derive(Debug, Drop, Error)]
 pub enum ProgramError {
     /// It is not known which crate a source is of.
-    #[error("{file}: it stands in no folder `src` of a crate: name the crate, by `--crate NAME`")]
+    #[error("{file}: it is in no folder `src` of a crate: name the crate by `--crate NAME`")]
     NoCrate {
         file: String,
     },

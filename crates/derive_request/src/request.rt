@@ -1,4 +1,4 @@
-//! What the words that the program is given ask for.
+//! What the arguments of the program ask for.
 ghost use Rattle.std.specs.Prelude.{◌≡◌, IfOk, Some, codes};
 ghost use Rattle.clap.specs.Words.{first_value, found_of, one_text};
 
@@ -43,7 +43,7 @@ const ABOUT: &str =
 /// The program's command line.
 static DERIVE: Program = Program {
     name: "derive",
-    version: "1.0.0",
+    version: "0.1.0",
     about: ABOUT,
     after_help: STATUSES,
     usage: None,
@@ -51,7 +51,7 @@ static DERIVE: Program = Program {
         Word {
             id: "check",
             kind: Kind::Flag,
-            help: "Writes nothing, and compares each module with what stands there",
+            help: "Writes nothing, and compares each module with the file that is there",
             conflicts: &["print"],
             needs: &[],
         },

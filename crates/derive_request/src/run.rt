@@ -1,4 +1,4 @@
-//! A run of the program over all that it is given, given where files stand.
+//! A run of the program over all files that it is given.
 ghost use Rattle.std.specs.Prelude.{◌≡◌, max, IfOk};
 
 use crate::paths::module_path;

@@ -1,4 +1,4 @@
-//! What the program answers, by tables of questions.
+//! What the program prints, by tables of questions.
 //!
 //! A table is a text. A line `=====` parts two questions, and a line `-----` a question from its answer. The first word
 //! of a question says what is asked.
@@ -145,7 +145,7 @@ src/book.rt:1:8: A is neither `Drop` nor `Copy`: derive `Drop`
 source /app/book.rt
 struct A(u8);
 -----
-src/book.rt: it stands in no folder `src` of a crate: name the crate, by `--crate NAME`
+src/book.rt: it is in no folder `src` of a crate: name the crate by `--crate NAME`
 ";
 
 #[test]

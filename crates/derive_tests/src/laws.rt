@@ -123,6 +123,27 @@ struct Inner(u8);
 struct Outer(Inner);
 -----
 //! Left out of Outer: Exact, Canonical.
+=====
+// What the last type lacks, the first one lacks too, through four others.
+#[derive(Drop, PartialEq)]
+struct First(Second);
+#[derive(Drop, PartialEq)]
+struct Second(Third);
+#[derive(Drop, PartialEq)]
+struct Third(Fourth);
+#[derive(Drop, PartialEq)]
+struct Fourth(Fifth);
+#[derive(Drop, PartialEq)]
+struct Fifth(Last);
+#[derive(Drop)]
+struct Last(Cell<u8>);
+-----
+//! Left out of First: Plain, Exact, Canonical.
+//! Left out of Second: Plain, Exact, Canonical.
+//! Left out of Third: Plain, Exact, Canonical.
+//! Left out of Fourth: Plain, Exact, Canonical.
+//! Left out of Fifth: Plain, Exact, Canonical.
+//! Left out of Last: Plain, Exact, Canonical.
 ";
 
 #[test]

@@ -1,4 +1,4 @@
-//! What is written for types that are not among those of the program's run, as docs/OWN_TYPES.md has it.
+//! What is written for types that are not among those of the program's run.
 //!
 //! A table of sources is a text. A line `=====` parts two of them, and a line `-----` a source from what its module
 //! has, and that from more that it has.

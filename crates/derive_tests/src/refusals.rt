@@ -94,7 +94,7 @@ enum A {
     C = 2,
 }
 -----
-refused 2:9: the tag of B is its place, 0, and not what stands after its `=`: to have 0, write a note `// bincode: \
+refused 2:9: the tag of B is its place, 0, and not what follows its `=`: to have 0, write a note `// bincode: \
     tag 0` above it, or take the `=` away; a note may also give another number below 2^32
 =====
 enum A {
@@ -104,21 +104,21 @@ enum A {
     D = 0xc8,
 }
 -----
-refused 5:9: the tag of D is its place, 2, and not what stands after its `=`: to have 2, write a note `// bincode: \
+refused 5:9: the tag of D is its place, 2, and not what follows its `=`: to have 2, write a note `// bincode: \
     tag 2` above it, or take the `=` away; a note may also give another number below 2^32
 =====
 enum A {
     B = 1_000,
 }
 -----
-refused 2:9: the tag of B is its place, 0, and not what stands after its `=`: to have 0, write a note `// bincode: \
+refused 2:9: the tag of B is its place, 0, and not what follows its `=`: to have 0, write a note `// bincode: \
     tag 0` above it, or take the `=` away; a note may also give another number below 2^32
 =====
 enum A {
     B = 0 + 1,
 }
 -----
-refused 2:9: the tag of B is its place, 0, and not what stands after its `=`: to have 0, write a note `// bincode: \
+refused 2:9: the tag of B is its place, 0, and not what follows its `=`: to have 0, write a note `// bincode: \
     tag 0` above it, or take the `=` away; a note may also give another number below 2^32
 =====
 enum A {
@@ -133,7 +133,7 @@ enum A {
     B = 4294967296,
 }
 -----
-refused 2:9: the tag of B is its place, 0, and not what stands after its `=`: to have 0, write a note `// bincode: \
+refused 2:9: the tag of B is its place, 0, and not what follows its `=`: to have 0, write a note `// bincode: \
     tag 0` above it, or take the `=` away; a note may also give another number below 2^32
 =====
 enum A {
@@ -172,27 +172,27 @@ enum Code {
     Refused, // bincode: tag 300
 }
 -----
-refused 2:11: a note stands in a line of its own, above the type or the variant that it is about: move \"// bincode: \
+refused 2:11: a note has a line of its own, above the type or the variant that it is about: move \"// bincode: \
     tag 1\" there
 =====
 enum Code { // bincode: tag 7
     Done,
 }
 -----
-refused 1:13: a note stands in a line of its own, above the type or the variant that it is about: move \"// bincode: \
+refused 1:13: a note has a line of its own, above the type or the variant that it is about: move \"// bincode: \
     tag 7\" there
 =====
 struct A; // bincode: skip
 struct B;
 -----
-refused 1:11: a note stands in a line of its own, above the type or the variant that it is about: move \"// bincode: \
+refused 1:11: a note has a line of its own, above the type or the variant that it is about: move \"// bincode: \
     skip\" there
 =====
 const TEXT: &str = \"of two
 lines\"; // bincode: skip
 struct B;
 -----
-refused 2:9: a note stands in a line of its own, above the type or the variant that it is about: move \"// bincode: \
+refused 2:9: a note has a line of its own, above the type or the variant that it is about: move \"// bincode: \
     skip\" there
 =====
 enum Code {
@@ -200,26 +200,26 @@ enum Code {
     // bincode: tag 5
 }
 -----
-refused 3:5: a note stands in a line of its own, above the type or the variant that it is about: move \"// bincode: \
+refused 3:5: a note has a line of its own, above the type or the variant that it is about: move \"// bincode: \
     tag 5\" there
 =====
 // bincode: with Writable
 use std::alloc::Global;
 struct A(u8);
 -----
-refused 1:1: a note stands in a line of its own, above the type or the variant that it is about: move \"// bincode: \
+refused 1:1: a note has a line of its own, above the type or the variant that it is about: move \"// bincode: \
     with Writable\" there
 =====
 // bincode: skip
 pub fn area() {}
 -----
-refused 1:1: a note stands in a line of its own, above the type or the variant that it is about: move \"// bincode: \
+refused 1:1: a note has a line of its own, above the type or the variant that it is about: move \"// bincode: \
     skip\" there
 =====
 struct A;
 // bincode: skip
 -----
-refused 2:1: a note stands in a line of its own, above the type or the variant that it is about: move \"// bincode: \
+refused 2:1: a note has a line of its own, above the type or the variant that it is about: move \"// bincode: \
     skip\" there
 =====
 struct A {
@@ -242,13 +242,13 @@ refused 1:26: a name is missing here: write it
 /// Types that can't be written, each with the message.
 const UNWRITABLE: &str = "\
 -----
-refused 1:1: no struct or enum stands in this file: write one, or take the note `skip` away
+refused 1:1: this file has no struct or enum: write one, or take the note `skip` away
 =====
 // bincode: skip
 #[derive(Drop)]
 struct A;
 -----
-refused 1:1: no struct or enum stands in this file: write one, or take the note `skip` away
+refused 1:1: this file has no struct or enum: write one, or take the note `skip` away
 =====
 struct A {
     ghost even: { true },
@@ -277,70 +277,70 @@ refused 2:6: A is an enum with a type parameter, and a lifetime or a note that a
 #[derive(Drop)]
 struct A(u8, Vec<f64>);
 -----
-refused 2:18: the library has no words for `f64`: hold its bits, as a `u64`
+refused 2:18: the library does not encode `f64`: hold its bits, as a `u64`
 =====
 #[derive(Drop)]
 struct A(&'static str);
 -----
-refused 2:10: the library has no words for `&`: hold the value, or give the type a lifetime
+refused 2:10: the library does not encode `&`: hold the value, or give the type a lifetime
 =====
 #[derive(Drop)]
 struct A<'a> {
     a: &'a mut str,
 }
 -----
-refused 3:8: the library has no words for `&`: only `&str` and `&[u8]` are read by borrowing: hold the value, or a \
+refused 3:8: the library does not encode `&`: only `&str` and `&[u8]` are read by borrowing: hold the value, or a \
     `Vec`
 =====
 #[derive(Drop)]
 struct A<'a>(&'a [u16]);
 -----
-refused 2:14: the library has no words for `&`: only `&str` and `&[u8]` are read by borrowing: hold the value, or a \
+refused 2:14: the library does not encode `&`: only `&str` and `&[u8]` are read by borrowing: hold the value, or a \
     `Vec`
 =====
 #[derive(Drop)]
 struct A(Option<f32>);
 -----
-refused 2:17: the library has no words for `f32`: hold its bits, as a `u32`
+refused 2:17: the library does not encode `f32`: hold its bits, as a `u32`
 =====
 #[derive(Drop)]
 struct A(u8, std::time::SystemTime);
 -----
-refused 2:25: the library has no words for `SystemTime`: hold a `Duration` or a number
+refused 2:25: the library does not encode `SystemTime`: hold a `Duration` or a number
 =====
 #[derive(Drop)]
 struct A(Mutex<u8>);
 -----
-refused 2:10: the library has no words for `Mutex`: hold the value, and lock the whole
+refused 2:10: the library does not encode `Mutex`: hold the value, and lock the whole
 =====
 #[derive(Drop)]
 struct A(*const u8);
 -----
-refused 2:10: the library has no words for `*`: hold the value
+refused 2:10: the library does not encode `*`: hold the value
 =====
 #[derive(Drop)]
 struct A(Box<dyn C>);
 -----
-refused 2:14: the library has no words for `dyn`: hold a value of a type with a name
+refused 2:14: the library does not encode `dyn`: hold a value of a type with a name
 =====
 #[derive(Drop)]
 struct A(fn(u8) -> u8);
 -----
-refused 2:10: the library has no words for `fn`: hold a value of a type with a name
+refused 2:10: the library does not encode `fn`: hold a value of a type with a name
 =====
 #[derive(Drop)]
 struct A(u8);
 #[derive(Drop)]
 struct C(f32);
 -----
-refused 4:10: the library has no words for `f32`: hold its bits, as a `u32`
+refused 4:10: the library does not encode `f32`: hold its bits, as a `u32`
 =====
 #[derive(Drop)]
 struct Instant(u64);
 #[derive(Drop)]
 struct A(Instant, std::time::Instant);
 -----
-refused 4:30: the library has no words for `Instant`: hold a `Duration` or a number
+refused 4:30: the library does not encode `Instant`: hold a `Duration` or a number
 =====
 struct A(u8);
 -----
@@ -351,7 +351,7 @@ struct A(Option<Box<C>>);
 #[derive(Drop)]
 struct C(Vec<A>);
 -----
-refused 2:8: A holds itself, and the library has no words for it: hold its items in a `Vec`, and name them by index
+refused 2:8: A holds itself, which the library does not encode: hold its items in a `Vec`, and name them by index
 =====
 // bincode: with Described
 #[derive(Drop)]
@@ -386,19 +386,19 @@ refused 2:13: the name `TheEncoder` is used by what is written for your types: t
 #[derive(Drop)]
 struct A(Vec<std::time::Duration>);
 -----
-refused 2:25: the library has no words for `Duration`: hold a `bincode::time::Duration` in place of that of `std`
+refused 2:25: the library does not encode `Duration`: hold a `bincode::time::Duration` in place of that of `std`
 =====
 use std::{time::Duration, mem};
 #[derive(Drop)]
 struct A(Duration);
 -----
-refused 3:10: the library has no words for `Duration`: hold a `bincode::time::Duration` in place of that of `std`
+refused 3:10: the library does not encode `Duration`: hold a `bincode::time::Duration` in place of that of `std`
 =====
 use std::ffi;
 #[derive(Drop)]
 struct A(ffi::CString);
 -----
-refused 3:15: the library has no words for `CString`: hold a `bincode::ffi::CString` in place of that of `std`
+refused 3:15: the library does not encode `CString`: hold a `bincode::ffi::CString` in place of that of `std`
 =====
 #[derive(Drop)]
 struct A(Vec<Shape>);
@@ -440,7 +440,7 @@ enum OrderLine {
     Paid(u8),
 }
 -----
-refused 4:5: the name of LinePaid behind that of its enum is that of another enum and its variant: take another
+refused 4:5: the name of its enum and LinePaid are together those of another enum and its variant: take another name
 =====
 #[derive(Drop)]
 enum OrderLine {
@@ -451,7 +451,7 @@ enum Order {
     LinePaid(u8),
 }
 -----
-refused 7:5: the name of LinePaid behind that of its enum is that of another enum and its variant: take another
+refused 7:5: the name of its enum and LinePaid are together those of another enum and its variant: take another name
 =====
 #[derive(Drop)]
 struct Result(u8);

@@ -1,4 +1,4 @@
-//! What words ask for, and where the module goes.
+//! What arguments ask for, and where the module goes.
 
 use crate::answers::wrong_in;
 use derive_request::paths::{declared_path, module_path};
@@ -131,11 +131,11 @@ For more information, try '--help'.
 =====
 request --version
 -----
-derive 1.0.0
+derive 0.1.0
 =====
 request -V
 -----
-derive 1.0.0
+derive 0.1.0
 =====
 help --help
 -----
@@ -160,7 +160,7 @@ Arguments:
   <FILE>...  The sources: for `src/book.rt` the module `src/book/words.rt` is written
 
 Options:
-      --check         Writes nothing, and compares each module with what stands there
+      --check         Writes nothing, and compares each module with the file that is there
       --print         Writes nothing, and prints each module
       --crate <NAME>  The crate of the sources, if it is not the folder before their `src`
   -h, --help          Print help

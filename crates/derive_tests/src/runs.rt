@@ -235,14 +235,14 @@ run --check src/a.rt src/b.rt
 2
 src/b/words.rt: missing: run `derive src/b.rt`
 --
-derive: src/a.rt:2:10: the library has no words for `f64`: hold its bits, as a `u64`
+derive: src/a.rt:2:10: the library does not encode `f64`: hold its bits, as a `u64`
 =====
 run src/a.rt src/gone.rt src/b.rt
 -----
 2
 src/b/words.rt: written
 --
-derive: src/a.rt:2:10: the library has no words for `f64`: hold its bits, as a `u64`
+derive: src/a.rt:2:10: the library does not encode `f64`: hold its bits, as a `u64`
 derive: src/gone.rt: No such file or directory (os error 2)
 =====
 list
@@ -277,7 +277,7 @@ src/a/words.rt: missing: run `derive src/a.rt`
 run --version
 -----
 0
-derive 1.0.0
+derive 0.1.0
 --
 =====
 run

@@ -1,4 +1,4 @@
-//! What is left of some tokens while they are read from the front.
+//! What remains of some tokens while they are read one after another.
 
 use crate::error::{Fault, MISSING, NO_MARK, Refusal, UNCLOSED};
 use crate::text::text_at;

@@ -36,7 +36,7 @@ pub const UNKNOWN_NOTE: &str =
 
 /// A note stands behind code in its line, before a `}`, or at the end of the source.
 pub const MISPLACED_NOTE: &str =
-    "a note stands in a line of its own, above the type or the variant that it is about: \
+    "a note has a line of its own, above the type or the variant that it is about: \
     move $quoted$ there";
 
 /// A note asks for a law that is written where it is kept, and needs no note.
@@ -69,14 +69,14 @@ pub const GENERIC_ENUM: &str =
     than laws: write an enum for each type that you have";
 
 /// The library has no words for a type.
-pub const NO_WORDS: &str = "the library has no words for `$word$`: $instead$";
+pub const NO_WORDS: &str = "the library does not encode `$word$`: $instead$";
 
 /// A type may not be let go.
 pub const NOT_DROPPABLE: &str = "$word$ is neither `Drop` nor `Copy`: derive `Drop`";
 
 /// A type holds itself.
 pub const HOLDS_ITSELF: &str =
-    "$word$ holds itself, and the library has no words for it: hold its items in a `Vec`, \
+    "$word$ holds itself, which the library does not encode: hold its items in a `Vec`, \
     and name them by index";
 
 /// A described enum has tags that are not 0, 1 and so on, or is one of too many variants with a type parameter, a
@@ -101,7 +101,7 @@ pub const OTHER_NUMBER: &str =
 
 /// What stands after the `=` of a variant is no number that a tag may be, and no note gives its tag.
 pub const NO_TAG: &str =
-    "the tag of $word$ is its place, $tag$, and not what stands after its `=`: to have $tag$, \
+    "the tag of $word$ is its place, $tag$, and not what follows its `=`: to have $tag$, \
     write a note `// bincode: tag $tag$` above it, or take the `=` away; a note may also give \
     another number below 2^32";
 
@@ -111,12 +111,12 @@ pub const TAKEN_NAME: &str =
 
 /// The part of a variant would be named as that of a variant of another enum.
 pub const SAME_PART: &str =
-    "the name of $word$ behind that of its enum is that of another enum and its variant: \
-    take another";
+    "the name of its enum and $word$ are together those of another enum and its variant: \
+    take another name";
 
 /// No type stands in the file that is to be written.
 pub const NO_TYPES: &str =
-    "no struct or enum stands in this file: write one, or take the note `skip` away";
+    "this file has no struct or enum: write one, or take the note `skip` away";
 
 /// What is refused: where it stands, and what is said of it.
 #[derive(Clone, Copy)]

@@ -1,4 +1,4 @@
-//! The facts on which it depends what is written for a type.
+//! The conditions on which it depends what is written for a type.
 
 use crate::filling::Filling;
 use crate::heads::is_by_variants;

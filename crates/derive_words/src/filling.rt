@@ -1,4 +1,4 @@
-//! Templates: texts that are filled for a type.
+//! Templates: texts with blanks, conditions and loops, filled for a type.
 //!
 //! Between two `$` stands a mark. Most marks are blanks, which are filled with what they name. The others are:
 //!

@@ -1,4 +1,4 @@
-//! What stands before the brace of an `impl`: parameters, bounds, trait and type.
+//! The head of an `impl`, up to its brace: parameters, bounds, trait and type.
 
 use crate::items::{Item, Param};
 use crate::laws::is_among;

@@ -1,4 +1,4 @@
-//! The structs and enums that stand in a source.
+//! The structs and enums of a source.
 
 use crate::laws::{Keeps, is_among};
 use crate::notes::Marks;

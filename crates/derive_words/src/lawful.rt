@@ -1,4 +1,4 @@
-//! How a type tells the laws that it keeps.
+//! How a type proves the laws that it keeps.
 
 /// The laws that a type keeps by its parts.
 pub const LAWS: &str = "\

@@ -1,4 +1,4 @@
-//! Which laws a type keeps, by the names that stand in the types of its fields.
+//! Which laws a type keeps, by the names in the types of its fields.
 
 use crate::cursor::depth_in_type;
 use crate::items::{Item, Source};

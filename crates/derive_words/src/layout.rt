@@ -1,4 +1,4 @@
-//! Lines as `rt fmt` lays them out: one that is too long is broken where a list stands in brackets.
+//! Lines as `rt fmt` lays them out: one that is too long is broken at a list in brackets.
 
 use crate::clauses::add_clause;
 use crate::text::Text;

@@ -1,5 +1,5 @@
-//! Writes the `impl`s by which the structs and enums of a Rattle source are encoded and decoded, and those that tell
-//! the laws which they keep.
+//! Writes the `impl`s by which the structs and enums of a Rattle source are encoded and decoded, and those that prove
+//! their laws.
 #![tactic(auto)]
 
 pub mod answers;

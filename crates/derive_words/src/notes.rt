@@ -1,4 +1,4 @@
-//! What stands above a type: what it derives, and notes to this program, as `// bincode: with Described, Writable`.
+//! The attributes and notes above a type, such as `// bincode: with Described, Writable`.
 
 use crate::cursor::Cursor;
 use crate::error::{NEVER_ADDED, NEVER_LEFT_OUT, NO_NUMBER, UNKNOWN_NOTE};

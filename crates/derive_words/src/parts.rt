@@ -1,4 +1,4 @@
-//! The parts of a type, and how its fields stand in tuples, values and patterns.
+//! The parts of a type, and its fields in tuples, values and patterns.
 
 use crate::items::{Brackets, Field, Item, Variant, say};
 use crate::text::{Text, text_at};

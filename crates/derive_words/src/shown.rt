@@ -1,4 +1,4 @@
-//! How a value is shown: the type of its parts, the parts of a value, and its words by those of the parts.
+//! How a value is shown: the type of its parts, the parts of a value, and its format by those of the parts.
 
 /// The aliases for the part of each variant, and for the parts of a type.
 pub const PARTS: &str = "\

@@ -1,4 +1,4 @@
-//! Enums with tags of their own, and with numbers that are no tags.
+//! Enums with tags by notes, and with numbers that are no tags.
 
 mod words;
 

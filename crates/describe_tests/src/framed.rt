@@ -36,7 +36,7 @@ const BOTH: &str =
     "{\"offset\":0,\"length\":9,\"value\":7}\n{\"offset\":9,\"length\":11,\"value\":300}\n";
 
 /// How a store ends that is cut in its second frame.
-const TORN: &str = "torn at byte 9: the input ends within a frame";
+const TORN: &str = "truncated at byte 9: the input ends within a frame";
 
 /// A changed bit of the second word; and lengths above the longest, after which nothing is known.
 #[test]
@@ -49,8 +49,8 @@ fn tells_frames_apart(rt: HostRuntime) {
         "{\"offset\":0,\"length\":9,\"undecodable\":\"LimitExceeded\"}\n",
         "damaged",
     );
-    let above = "at byte 9: a frame of a word of 1114115 bytes, of which 1048576 are allowed";
-    let above_two = "at byte 9: a frame of a word of 3 bytes, of which 2 are allowed";
+    let above = "at byte 9: the frame's length of 1114115 is above 1048576";
+    let above_two = "at byte 9: the frame's length of 3 is above 2";
     all_told(
         &rt,
         rt.alloc(),
@@ -124,10 +124,10 @@ const BETWEEN: [u8; 25] = [
 #[test]
 fn joins_damaged_frames(rt: HostRuntime) {
     let alloc = rt.alloc();
-    let torn = "torn at byte 100000: the input ends within a frame";
+    let torn = "truncated at byte 100000: the input ends within a frame";
     let before = "{\"offset\":100000,\"length\":9,\"value\":7}\n\
         {\"offset\":100009,\"length\":16,\"damaged\":2}\ndamaged";
-    let ones = "at byte 0: a frame of a word of 4294967295 bytes, of which 1048576 are allowed";
+    let ones = "at byte 0: the frame's length of 4294967295 is above 1048576";
     assert!(rt;
         tells_after_zeros(alloc, &[], (ZEROS, "damaged"))
             && tells_after_zeros(alloc, &[0], (ZEROS, torn))

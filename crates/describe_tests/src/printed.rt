@@ -17,7 +17,7 @@ const BOTH: &str =
 /// The lines of all encodings before it are printed, then why no more are.
 #[test]
 fn says_how_it_ends(rt: HostRuntime) {
-    let torn = "torn at byte 4: the input ends within a value of u16";
+    let torn = "truncated at byte 4: the input ends within a value of u16";
     let wrong = "no u16 at byte 4: InvalidIntegerType { expected: U16, found: U32 }";
     let no_option = "no [char?] at byte 0: \
         UnexpectedVariant { type_name: \"Option\", found: 2, min: 0, max: 1 }";
@@ -94,8 +94,8 @@ fn reads_long_encodings(rt: HostRuntime) -> Result<(), AllocError> {
         calls: 50_000,
     };
     let text = ("", "text");
-    let no_text = "torn at byte 0: the input ends within a value of text";
-    let torn = "\"}\ntorn at byte 40003: the input ends within a value of text";
+    let no_text = "truncated at byte 0: the input ends within a value of text";
+    let torn = "\"}\ntruncated at byte 40003: the input ends within a value of text";
     let both = "\"}\n{\"offset\":40003,\"length\":2,\"value\":\"b\"}\nwhole";
     assert!(rt;
         tells(alloc, text, cut, ("", no_text))
@@ -203,7 +203,7 @@ fn keeps_limits(rt: HostRuntime) {
     let past = ("", "no [u128] at byte 0: LimitExceeded");
     let torn = (
         "",
-        "torn at byte 0: the input ends within a value of [u128]",
+        "truncated at byte 0: the input ends within a value of [u128]",
     );
     let many = [252, 1, 0, 64, 0].as_slice();
     all_told(

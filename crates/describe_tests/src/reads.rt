@@ -3,7 +3,7 @@
 
 use crate::endings::{ends, path_of};
 use crate::sources::words_of;
-use evolution_text::compare::compare_texts;
+use evolution_text::compare::{compare_texts, compare_type};
 use evolution_text::compare_lines;
 use evolution_text::failure::CompareError;
 use evolution_text::setting::{SETTINGS, Setting};
@@ -173,6 +173,27 @@ fn prints_answers(rt: HostRuntime) {
     for &(options, old, wanted) in &COMPARED {
         assert!(rt; prints(rt.alloc(), options, old, wanted), "{options} {old}");
     }
+}
+
+/// Whether this is returned and printed for a pair as a type and the shape `(u8,u16)`.
+fn compares_pair(alloc: Global, settings: &[Setting], is_read: bool, wanted: &str) -> bool {
+    let mut out = Vec::new(alloc);
+    match compare_type::<(u8, u32), Vec<u8>>(alloc, "(u8,u16)", settings, &mut out) {
+        Ok(answer) => answer == is_read && out.as_slice() == wanted.as_bytes(),
+        Err(_) => false,
+    }
+}
+
+/// A type is compared as the shape that describes it.
+#[test]
+fn compares_a_type(rt: HostRuntime) {
+    let alloc = rt.alloc();
+    let read = "variable  little endian  yes\nevery file of OLD is read by NEW\n";
+    let unread = "fixed     little endian  no\n\n\
+        fixed     little endian  NEW does not read these bytes of OLD as the same\n  \
+        bytes  010100\n  OLD    part 1: u16\n  NEW    part 1: u32\n";
+    assert!(&rt; compares_pair(alloc, &SETTINGS[..1], true, read));
+    assert!(&rt; compares_pair(alloc, &SETTINGS[2..3], false, unread));
 }
 
 /// Lines, and what is printed for the first setting, with the end.

@@ -1,4 +1,4 @@
-//! What words ask for.
+//! What arguments ask for.
 
 use crate::sources::{requested, words_of};
 use bincode::config::{Endianness, IntEncoding};
@@ -167,7 +167,7 @@ const ANSWERS: [(&str, &str, &str); 13] = [
         "--help",
         "0 Prints what a file in the format of bincode holds",
     ),
-    ("", "--version", "0 describe 2.0.0\n"),
+    ("", "--version", "0 describe 0.1.0\n"),
 ];
 
 #[test]

@@ -18,13 +18,13 @@ AddsFrame W s limit most value old new = (word : List ℕ) × IsFitting W s limi
 abbrev pub AddsPart : {A : Type 0} → Words A → Setting → Option ℕ → ℕ → A → Files → Files → Type 0
 AddsPart W s limit most value old new = (new ≡ old) ⊎ ((word : List ℕ) × IsFitting W s limit most value word × AppendsPart (frame word) old new)
 
--- memory was refused, or the device failed
+-- the error is one of memory or device: any such error
 abbrev pub IsForced : CommandError → Type 0
 IsForced (Frame e) = IsOutside e
 IsForced (Device e) = Unit {0}
 
--- Without a frame the device was not called. Where memory was refused to the device, nothing was appended: its files are
--- what they were, and each crash leaves them so.
+-- Without a frame the device was not called. After the device's `Memory` nothing was appended: its files are what they
+-- were, and each crash leaves them so.
 abbrev pub IsUntouched : {D : Type 0} → (D → Files) → (D → Files → Type 0) → D → D → CommandError → Type 0
 IsUntouched seen may_leave old new (Frame e) = new ≡ old
 IsUntouched seen may_leave old new (Device Memory) = Holds seen may_leave new (seen old)

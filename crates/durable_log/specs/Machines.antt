@@ -87,13 +87,14 @@ IsRefused stands_for applies refuses state F decodes_to G commands_to limit most
     (seen after ≡ seen before) × Only (seen before) (may_leave after)
     × IsResumeFault stands_for applies refuses state F decodes_to G commands_to limit most (seen before).snapshot (seen before).log why
 
--- the device failed, the machine refused a command, the log could not be read, or memory was refused
+-- the error says that the device failed, the machine refused a command, a read failed or an allocation was refused: any
+-- such error
 abbrev pub HasOutsideCause : {E : Type 0} → ComeBackError E → Type 0
 HasOutsideCause (returning.Device _) = Unit {0}
 HasOutsideCause (returning.Files (Snapshot why)) = IsRestoreMemory why
 HasOutsideCause (returning.Files (Log e)) = IsOutside e.why
 
--- memory was refused for the snapshot, or the device failed
+-- the error is one of memory for the snapshot, or of the device: any such error
 abbrev pub StopsFromOutside : CompactError → Type 0
 StopsFromOutside (compacting.Save why) = IsSaveMemory why
 StopsFromOutside (compacting.Device _) = Unit {0}

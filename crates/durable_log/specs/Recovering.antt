@@ -20,7 +20,7 @@ pub record IsRecovered {S A : Type 0} (eq : A → A → Bool) (applies : S → A
   pub run : Run applies old commands new
   pub count : replayed.commands ≡ length pieces
 
--- the machine refused a command, the log could not be read, or memory was refused
+-- the error says that the machine refused a command, a read failed or an allocation was refused: any such error
 abbrev pub IsOutside : {E : Type 0} → Failure E → Type 0
 IsOutside (failures.Refused _) = Unit {0}
 IsOutside (failures.Read _) = Unit {0}

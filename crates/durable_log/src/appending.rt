@@ -63,10 +63,10 @@ pub fn append_command<T: Encode + Decode<()> + Exact, D: Device, C: Config>(
         → LeavesOnly D.moment D.left_since device.old device.new
         (IsBeforeOrAfter T.words C.setting C.bound most pieces command.now (D.seen device.old)) }
 
-    // Where memory is refused, nothing was appended: the device was not called, or its files are as they were, and each
+    // After an error of memory nothing was appended: the device was not called, or its files are as they were, and each
     // crash leaves them so.
     ensures untouched { IfErr result (IsUntouched D.seen D.may_leave device.old device.new) }
-    // It does not fail by itself: a command that fits is refused only if memory is, or if the device fails.
+    // It does not fail by itself: of a command that fits the error is one of memory or device.
     ensures fits { FitsStore T.words C.setting C.bound most command.now → IfErr result IsForced }
     ensures failed { IsErrOf result (CommandError.Device DeviceError.Failed)
         → D.faults device.old < D.faults device.new }

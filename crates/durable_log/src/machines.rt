@@ -89,8 +89,8 @@ pub fn resume_from_device<M: Saving + Drop, D: Device, C: Config>(
         ⟦<(u64, M::Command) as Wire>⟧.words C.setting C.bound most first commands (D.seen device.old)
         → LeavesOnly D.moment D.left_since device.old device.new (FilesStandFor M.stands_for M.Saved.words M.state
         M.Command.eq M.applies ⟦<(u64, M::Command) as Wire>⟧.words C.setting C.bound most first commands) }
-    // Files that stand for commands are refused only if the machine refuses one of them, if memory is refused, or if
-    // reading fails.
+    // Of files that stand for commands the error says that the machine refused a command, that a read or the device
+    // failed, or that an allocation was refused.
     ensures from_outside { (first : M.State) (commands : List M.Command)
         → FilesStandFor M.stands_for M.Saved.words M.state M.Command.eq M.applies
         ⟦<(u64, M::Command) as Wire>⟧.words C.setting C.bound most first commands (D.seen device.old)
@@ -153,8 +153,8 @@ pub fn compact_machine<M: Saving, D: Device, C: Config>(
         M.Command.eq M.applies ⟦<(u64, M::Command) as Wire>⟧.words C.setting C.bound most first commands) }
 
     ensures untouched { IfErr result (IsUncalled device.old device.new) }
-    // It does not fail by itself: a machine of which all that is saved fits the limit is refused only if memory is, or
-    // if the device fails.
+    // It does not fail by itself: of a machine of which all that is saved fits the limit the error is one of memory or
+    // device.
     ensures fits { FitsSnapshot M.stands_for M.Saved.words C.setting C.bound numbered.now.machine
         → IfErr result StopsFromOutside }
     ensures failed { IsErrOf result (CompactError.Device DeviceError.Failed)
@@ -228,7 +228,7 @@ where
         M.state M.Command.eq M.applies ⟦<(u64, M::Command) as Wire>⟧.words C.setting C.bound most first commands
         command) }
 
-    // Where memory is refused, nothing was appended, and it does not fail by itself, as `append_command` does not.
+    // After an error of memory nothing was appended, and it does not fail by itself, as `append_command` does not.
     ensures untouched { IfErr result (IsUntouched D.seen D.may_leave device.old device.new) }
     ensures fits { FitsStore ⟦<(u64, M::Command) as Wire>⟧.words C.setting C.bound most (numbered.now.next, command)
         → IfErr result IsForced }

@@ -61,8 +61,8 @@ pub fn recover<M: Machine, D: Device, C: Config>(
         → LeavesOnly D.moment D.left_since device.old device.new (λ c. (c.snapshot ≡ (D.seen device.old).snapshot)
         × StandsFor M.Command.words C.setting C.bound most pieces c.log) }
 
-    // A log that stands for commands is refused only if the machine refuses one of them, if memory is refused, or if
-    // reading fails.
+    // Of a log that stands for commands the error says that the machine refused a command, that a read or the device
+    // failed, or that an allocation was refused.
     ensures from_outside { (pieces : List (Piece M.Command))
         → StandsFor M.Command.words C.setting C.bound most pieces (D.seen device.old).log
         → IfErr result ComesFromOutside }

@@ -39,7 +39,7 @@ pub fn append_commands<T: Encode + Decode<()> + Exact, D: Device, C: Config>(
         → LeavesOnly D.moment D.left_since device.old device.new
         (StandsForPart T.words C.setting C.bound most pieces commands.now (D.seen device.old)) }
 
-    // It does not fail by itself: of commands that all fit one is refused only if memory is, or if the device fails.
+    // It does not fail by itself: of commands that all fit the error is one of memory or device.
     ensures fits { All (λ command. FitsStore T.words C.setting C.bound most command) commands.now
         → IfErr result IsForced }
     ensures failed { IsErrOf result (CommandError.Device DeviceError.Failed)

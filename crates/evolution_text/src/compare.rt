@@ -1,4 +1,4 @@
-//! The answer for two shapes, written as a table.
+//! The result for two shapes, written as a table.
 ghost use Rattle.std.specs.Prelude.{◌≡◌, IfOk, IsTrue};
 ghost use Rattle.evolution_text.specs.Answers.{is_read_in_all, IsAnswer, IsAnswerOf, ReadsInAll, ReadsSpelled};
 ghost use Rattle.shape_grammar.specs.Grammar.{IsSpelled};

@@ -1,4 +1,4 @@
-//! The answers for pairs of shapes that stand in lines.
+//! The results for pairs of shapes, a pair a line.
 
 use crate::compare::compare_texts;
 use crate::failure::{CompareError, Side};

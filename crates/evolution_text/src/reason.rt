@@ -1,4 +1,4 @@
-//! Why one shape does not read all words of another.
+//! Why one shape does not read all encodings of another.
 ghost use Rattle.std.specs.Prelude.{◌≡◌, IfOk, IfSome};
 ghost use Rattle.bincode_shape.specs.Shapes.{format_of};
 ghost use Rattle.shape_difference.specs.Differing.{Shows};

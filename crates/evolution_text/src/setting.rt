@@ -1,4 +1,4 @@
-//! How numbers are written, and whether one shape reads all words of another then.
+//! How numbers are written, and whether one shape reads all encodings of another then.
 ghost use Rattle.std.specs.Prelude.{◌≡◌, IsTrue};
 ghost use Rattle.bincode_shape.specs.Shapes.{format_of};
 ghost use Rattle.bincode_evolution.specs.Reading.{ReadsAll};

@@ -26,7 +26,7 @@ read-fitting W s limit most v word valid allowed short DecodesTo n d = record {
   is_short = short;
 }
 
--- if words fit the limit, decoding one again fails only with refused memory
+-- if words fit the limit, decoding one again fails only with `Memory`
 pub read-memory : {A : Type 0} (W : Words A) (s : Setting) (limit : Option ℕ) (most : ℕ) (v : A) (word : List ℕ) → AllowedWord (W.means v) (W.format s) word → (MayAllocate : Type 0) (e : DecodeError) →
     FindsWords {A = Unit {0}} (W.format s) limit MayAllocate word (Err e) → FitsStore W s limit most v → e ≡ decoding.Memory
 read-memory W s limit most v word allowed MayAllocate e found fits =

@@ -8,7 +8,7 @@ use Rattle.bincode_spec.specs.Meaning.{Meaning}
 use Rattle.bincode_spec.specs.Slice.{FindsWords, TellsFaults, KeepsLimit}
 use Rattle.framed_store.specs.Told.{IsRefusedFor}
 
--- an error other than a refusal of memory tells why no encoding begins the word
+-- an error other than `Memory` tells why no encoding begins the word
 pub refused-for : (F : Format Meaning) (limit : Option ℕ) (MayAllocate : Type 0) (word : List ℕ) (e : DecodeError) → ¬ (e ≡ Memory) → FindsWords {A = Unit {0}} F limit MayAllocate word (Err e) →
     TellsFaults {A = Unit {0}} F limit MayAllocate word (Err e) → KeepsLimit {A = Unit {0}} F limit MayAllocate word (Err e) → IsRefusedFor F limit word e
 refused-for F limit MayAllocate word e other found tells keeps = record {

@@ -43,7 +43,7 @@ pub record FrontAdded {A : Type 0} (W : Words A) (s : Setting) (limit : Option �
 abbrev pub FitsStore : {A : Type 0} → Words A → Setting → Option ℕ → ℕ → A → Type 0
 FitsStore W s limit most value = (word : List ℕ) → AllowedWord (W.means value) (W.format s) word → FitsLimit (W.format s) limit word × (length word ≤ most)
 
--- memory was refused, or the stream failed
+-- the error is one of memory or of the stream: any such error
 abbrev pub IsOutside : AppendError → Type 0
 IsOutside (failures.Encode e) = e ≡ encoding.Memory
 IsOutside (failures.ReadBack e) = e ≡ decoding.Memory

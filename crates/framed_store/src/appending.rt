@@ -31,7 +31,7 @@ pub enum AppendError {
     /// Encoding failed. Nothing was written.
     #[error("{0}")]
     Encode(EncodeError),
-    /// Decoding the encoding again failed: it passes the limit, or memory was refused. Nothing was written.
+    /// Decoding the encoding again failed: it passes the limit, or the error is `Memory`. Nothing was written.
     #[error("it cannot be read back: {0}")]
     ReadBack(DecodeError),
     /// The encoding is longer than the store takes. Nothing was written.
@@ -66,7 +66,7 @@ pub fn append<T: Encode + Decode<()> + Exact, C: Config, W: Write>(
         (W.contents store.new)) }
     // After an error the store holds what it held, and at most a prefix of the frame after it.
     ensures left { IfErr result (Leaves T.words C.setting C.bound most value.now W.contents store.old store.new) }
-    // A value that fits the limit and the store is refused only if memory is, or if the stream fails.
+    // Of a value that fits the limit and the store the error is one of memory or of the stream.
     ensures fits { FitsStore T.words C.setting C.bound most value.now → IfErr result IsOutside }
 {
     T::tell_plain();

@@ -1,5 +1,5 @@
 //! A store of values in frames: a reader tells each value that stands whole, each frame that was damaged, and where the
-//! bytes end within a frame. docs/FORMAT.md has the format of frames.
+//! bytes end within a frame. docs/STORES.md has the format of frames.
 #![tactic(auto)]
 
 pub mod appending;

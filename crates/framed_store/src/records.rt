@@ -1,4 +1,4 @@
-//! What stands where a record is to begin: a frame, and what its word holds.
+//! What is found where a record is to begin: a frame, and what its encoding holds.
 ghost use Rattle.std.specs.Prelude.{◌≡◌, ◌↔◌, IfOk, IsTrue};
 ghost use Rattle.bincode_base.specs.declared.error.DecodeError.TheVariants.{Memory};
 ghost use Rattle.framed_store.specs.Told.{IsNext, IsContent};

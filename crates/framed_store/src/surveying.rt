@@ -1,4 +1,4 @@
-//! Counting the frames of a store by their lengths and checks alone, without decoding their words.
+//! Counting the frames of a store by their lengths and checks alone, without decoding.
 ghost use Rattle.framed_store.specs.Surveys.{IsSurvey, CutsWhole};
 
 use crate::ending::Ending;

@@ -1,5 +1,5 @@
 //! Frames around words: each has a length before its word and a check after it, so that a reader tells a word that was
-//! cut, damaged or never written from a whole one. docs/FORMAT.md has the format.
+//! cut, damaged or never written from a whole one. docs/STORES.md has the format.
 #![tactic(auto)]
 
 ghost use Rattle.std.specs.Prelude.{◌≡◌, ◌↔◌, ◌^◌, ◌<◌, length, ◌++◌, IfSome, IsSome};

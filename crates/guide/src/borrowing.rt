@@ -1,4 +1,4 @@
-//! Texts that are lent by the bytes that they are read from.
+//! Texts that are borrowed from the bytes that are decoded.
 
 use bincode::error::DecodeError;
 use bincode::{borrow_decode_from_slice, config};

@@ -1,4 +1,4 @@
-//! Appending payments: what stands after each, and after a crash in each call and at each byte.
+//! Appending payments: the files after each, and after a crash in each call and at each byte.
 
 use crate::device_logs::{
     LONGEST, ONE, Place, TWO, device_with, front, is_told, pay, recovers, recovers_to,

@@ -1,4 +1,4 @@
-//! What is left where an allocation is refused: each test passes whichever one it is.
+//! What logs and snapshots leave where an allocation fails: each test passes whichever one it is.
 
 use crate::logs::LOG;
 use crate::snapshots_of_tills::{SECOND, TILL};

@@ -1,4 +1,4 @@
-//! Types of one's own whose decoding is written by hand: a number that is checked, and a list with a loop of its own.
+//! User-defined types whose decoding is written by hand: a number that is checked, and a list with its own loop.
 #![tactic(auto)]
 
 pub mod even;

@@ -1,4 +1,4 @@
-//! A list that is decoded by a claim and a loop of its own.
+//! A list that is decoded by its own claim and loop.
 ghost use Rattle.std.specs.Prelude.{◌≡◌, ◌*◌};
 ghost use Rattle.bincode.specs.Releases.{CanRelease};
 ghost use Rattle.bincode.specs.Values.{RunRead};

@@ -1,4 +1,4 @@
-//! Two arenas in a context: which one is lent to a decoder, and how long its lists live.
+//! Two arenas in a context: which one a decoder borrows, and how long its lists live.
 ghost use Rattle.std.specs.Prelude.{◌≡◌, ℕ, List, length, IfOk};
 ghost use Rattle.bincode.specs.Run.{IsListOf};
 ghost use Rattle.bincode.specs.Slice.{IsDecoded};

@@ -1,4 +1,4 @@
-//! A struct that contains another type of one's own.
+//! A struct that contains another user-defined type.
 use crate::kind::Kind;
 
 mod words;

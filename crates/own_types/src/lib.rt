@@ -1,4 +1,4 @@
-//! Types of one's own, each as docs/OWN_TYPES.md says.
+//! User-defined types: the examples of docs/OWN_TYPES.md and docs/BY_HAND.md.
 #![tactic(auto)]
 
 pub mod arena;

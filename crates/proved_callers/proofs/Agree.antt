@@ -3,7 +3,7 @@ use Rattle.std.specs.Prelude.{◌≡◌, ◌+◌, ℕ, List, length, Option, Res
 use Rattle.std.proofs.Common.{◌∙◌, ap, sym, subst, arith, length-append}
 use Rattle.bincode_base.specs.declared.error.DecodeError.{DecodeError}
 use Rattle.bincode_spec.specs.Layers.Agree.{SameReading}
-use Rattle.bincode_spec.specs.Decoding.{IsRefused}
+use Rattle.bincode_spec.specs.Decoding.{MayReportMemory}
 use Rattle.bincode_spec.specs.Format.{Format, Took}
 use Rattle.bincode_spec.specs.Layers.Laws.{IsLawful}
 use Rattle.bincode_spec.specs.Meaning.{Meaning}
@@ -22,13 +22,13 @@ module _ {T : Type 0} (F : Format Meaning) (f : IsLawful F) (limit : Option ℕ)
       let b = e.count in
       record { same_length = omega (arith, l, s, a, b); meaning = e.meaning; first = subst (λ z. DecodesTo z x.0) m d.is_decoded; second = e.is_decoded }
 
-  -- what one decodes the other does, unless memory is refused
+  -- what one decodes the other does, or the error is `Memory` and decoding may allocate
   both-read : (x : T × ℕ) (r : Result (T × ℕ) DecodeError) → IsDecoded F limit input (λ m. DecodesTo m x.0) x.1 → IfOk r (λ y. IsDecoded F limit input (λ m. DecodesTo m y.0) y.1) →
-      FindsWords F limit MayAllocate input r → MatchResult r (SameReading DecodesTo x) (IsRefused MayAllocate)
+      FindsWords F limit MayAllocate input r → MatchResult r (SameReading DecodesTo x) (MayReportMemory MayAllocate)
   both-read x (Ok y) d e finds = same-reading x y d e
   both-read x (Err why) d e finds = finds d.word d.remaining d.meaning d.steps d.input_is d.is_word d.within
 
   pub each-read : (a r : Result (T × ℕ) DecodeError) → IfOk a (λ x. IsDecoded F limit input (λ m. DecodesTo m x.0) x.1) → IfOk r (λ y. IsDecoded F limit input (λ m. DecodesTo m y.0) y.1) →
-      FindsWords F limit MayAllocate input r → IfOk a (λ x. MatchResult r (SameReading DecodesTo x) (IsRefused MayAllocate))
+      FindsWords F limit MayAllocate input r → IfOk a (λ x. MatchResult r (SameReading DecodesTo x) (MayReportMemory MayAllocate))
   each-read (Ok x) r d e finds = both-read x r d e finds
   each-read (Err why) r d e finds = tt

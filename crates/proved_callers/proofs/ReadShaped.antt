@@ -9,7 +9,7 @@ use Rattle.bincode_spec.specs.Layers.Alike.{TellAlike, both_passed, both_tell}
 use Rattle.bincode_spec.specs.Allowed.{AllowedWord}
 use Rattle.bincode_spec.specs.Answer.{Answer, Gave, Refused, PassedLimit, StepsOf, of_word, of_fault, answer}
 use Rattle.bincode_spec.specs.Charge.{Step}
-use Rattle.bincode_spec.specs.Decoding.{IsRefused}
+use Rattle.bincode_spec.specs.Decoding.{MayReportMemory}
 use Rattle.bincode_spec.specs.Encoding.{Adds, Writes}
 use Rattle.bincode_spec.specs.Fault.{Fault, Tells}
 use Rattle.bincode_spec.specs.Format.{Format, Took}
@@ -32,7 +32,7 @@ module _ (F G : Format Meaning) (f : IsLawful F) (g : IsLawful G) (same : G.read
 
   -- each word of the one is one of the other
   word_found : (DecodesTo : Meaning → Type 0) (n : ℕ) → IsDecoded F limit input DecodesTo n → (A : Type 0) (MayAllocate : Type 0) (result : Result A DecodeError) →
-      FindsWords G limit MayAllocate input result → MatchResult result (λ _. Unit {0}) (IsRefused MayAllocate)
+      FindsWords G limit MayAllocate input result → MatchResult result (λ _. Unit {0}) (MayReportMemory MayAllocate)
   word_found DecodesTo n d A MayAllocate result found =
       let p : F.read input ≡ Took d.meaning d.remaining d.steps = ap F.read d.input_is ∙ f.word_read d.word d.remaining d.meaning d.steps d.is_word in
       let w = g.read_word input d.remaining d.meaning d.steps (same_read ∙ p) in
@@ -68,14 +68,14 @@ module _ (F G : Format Meaning) (f : IsLawful F) (g : IsLawful G) (same : G.read
   -- two errors
   module _ (MayAllocate MayAllocate' : Type 0) (d e : DecodeError) where
     abbrev Said : Type 0
-    Said = IsRefused MayAllocate d ⊎ (IsRefused MayAllocate' e ⊎ TellAlike EndsSlice EndsSlice d e)
+    Said = MayReportMemory MayAllocate d ⊎ (MayReportMemory MayAllocate' e ⊎ TellAlike EndsSlice EndsSlice d e)
 
-    both_fault : (why : Fault) → Tells EndsSlice why d ⊎ IsRefused MayAllocate d → Tells EndsSlice why e ⊎ IsRefused MayAllocate' e → Said
+    both_fault : (why : Fault) → Tells EndsSlice why d ⊎ MayReportMemory MayAllocate d → Tells EndsSlice why e ⊎ MayReportMemory MayAllocate' e → Said
     both_fault why (inr h) q = inl h
     both_fault why (inl h) (inr k) = inr (inl k)
     both_fault why (inl h) (inl k) = inr (inr (both_tell why h k))
 
-    both_limit : (d ≡ LimitExceeded) ⊎ IsRefused MayAllocate d → (e ≡ LimitExceeded) ⊎ IsRefused MayAllocate' e → Said
+    both_limit : (d ≡ LimitExceeded) ⊎ MayReportMemory MayAllocate d → (e ≡ LimitExceeded) ⊎ MayReportMemory MayAllocate' e → Said
     both_limit (inr h) q = inl h
     both_limit (inl h) (inr k) = inr (inl k)
     both_limit (inl h) (inl k) = inr (inr (both_passed h k))

@@ -10,7 +10,7 @@ use Rattle.bincode_spec.specs.Layers.Laws.{IsLawful, IsBalanced}
 use Rattle.bincode_spec.specs.Meaning.{Meaning}
 use Rattle.bincode_spec.specs.Answer.{Answer, Gave, Refused, PassedLimit, answer}
 use Rattle.bincode_lemmas.specs.AnswerLaws.{gave-word, refused-fault, passed-limit}
-use Rattle.bincode_spec.specs.Decoding.{IsRefused}
+use Rattle.bincode_spec.specs.Decoding.{MayReportMemory}
 use Rattle.bincode_spec.specs.Slice.{EndsSlice, FindsWords, TellsFaults, KeepsLimit}
 
 -- it is no error of a fault
@@ -33,11 +33,11 @@ tells_none EmptyEnum e i h = let k = h.1 in cc
 tells_none (OutsideUsize n) e i h = cc
 
 module _ (F : Format Meaning) (f : IsLawful F) (b : IsBalanced F) (limit : Option ℕ) (input : List ℕ) (MayAllocate : Type 0) (none : MayAllocate → ⊥) where
-  of_fault : (why : Fault) (e : DecodeError) → e ≡ Memory → Tells EndsSlice why e ⊎ IsRefused MayAllocate e → ⊥
+  of_fault : (why : Fault) (e : DecodeError) → e ≡ Memory → Tells EndsSlice why e ⊎ MayReportMemory MayAllocate e → ⊥
   of_fault why e i (inl h) = tells_none why e i h
   of_fault why e i (inr h) = none h.0
 
-  of_limit : (e : DecodeError) → e ≡ Memory → (e ≡ LimitExceeded) ⊎ IsRefused MayAllocate e → ⊥
+  of_limit : (e : DecodeError) → e ≡ Memory → (e ≡ LimitExceeded) ⊎ MayReportMemory MayAllocate e → ⊥
   of_limit e i (inl h) = cc
   of_limit e i (inr h) = none h.0
 

@@ -4,7 +4,7 @@ use Rattle.bincode_base.specs.Setting.{Setting}
 use Rattle.bincode_base.specs.declared.error.DecodeError.{DecodeError}
 use Rattle.bincode_spec.specs.Layers.Alike.{TellAlike}
 use Rattle.bincode_spec.specs.Allowed.{AllowedWord}
-use Rattle.bincode_spec.specs.Decoding.{IsRefused}
+use Rattle.bincode_spec.specs.Decoding.{MayReportMemory}
 use Rattle.bincode_spec.specs.Meaning.{Meaning}
 use Rattle.bincode_spec.specs.Slice.{EndsSlice}
 use Rattle.bincode_shape.specs.declared.shape.Shape.{Shape}
@@ -19,12 +19,13 @@ pub record SameImage {T : Type 0} (DecodesTo : Meaning → T → Type 0) (shape 
   pub is_image : IsImage shape (meaning y.0) y.0
   pub same_meaning : DecodesTo (meaning y.0) x.0
 
--- both results of one input: a value and its image, or errors of one fault, unless memory is refused
+-- both results of one input: a value and its image, or errors of one fault; or one of both is `Memory`, and decoding it
+-- may allocate
 abbrev pub ReadsAlike : {T : Type 0} → (Meaning → T → Type 0) → Type 0 → Shape → Result (T × ℕ) DecodeError → Result (Value × ℕ) DecodeError → Type 0
 ReadsAlike DecodesTo MayAllocate shape (Ok x) (Ok y) = SameImage DecodesTo shape x y
-ReadsAlike DecodesTo MayAllocate shape (Ok x) (Err e) = IsRefused (TakesMemory shape) e
-ReadsAlike DecodesTo MayAllocate shape (Err d) (Ok y) = IsRefused MayAllocate d
-ReadsAlike DecodesTo MayAllocate shape (Err d) (Err e) = IsRefused MayAllocate d ⊎ (IsRefused (TakesMemory shape) e ⊎ TellAlike EndsSlice EndsSlice d e)
+ReadsAlike DecodesTo MayAllocate shape (Ok x) (Err e) = MayReportMemory (TakesMemory shape) e
+ReadsAlike DecodesTo MayAllocate shape (Err d) (Ok y) = MayReportMemory MayAllocate d
+ReadsAlike DecodesTo MayAllocate shape (Err d) (Err e) = MayReportMemory MayAllocate d ⊎ (MayReportMemory (TakesMemory shape) e ⊎ TellAlike EndsSlice EndsSlice d e)
 
 -- an encoding of each value with the meaning of the image
 abbrev pub AllowsEachValue : {T : Type 0} → Setting → Words T → Value → List ℕ → Type 0

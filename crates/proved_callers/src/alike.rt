@@ -34,8 +34,8 @@ pub fn read_number_from_both<R: Reader, S: Reader>(
 }
 
 /// Decodes a value from two decoders of one configuration. If both know their bytes, have equal ones left and have
-/// equal charges, they give values for one meaning and leave equal bytes and charges, or errors of one fault, unless
-/// memory is refused or a device fails.
+/// equal charges, they give values for one meaning and leave equal bytes and charges, or errors of one fault, or the
+/// error of one is of its device, or `Memory` if the type may allocate.
 pub fn decode_from_both<
     Context: Drop,
     T: Decode<Context>,

@@ -2,7 +2,7 @@
 ghost use Rattle.std.specs.Prelude.{◌≡◌, IfErr, IfOk, MatchResult};
 ghost use Rattle.bincode_base.specs.declared.error.DecodeError.TheVariants.{Memory};
 ghost use Rattle.bincode_spec.specs.Layers.Agree.{SameReading};
-ghost use Rattle.bincode_spec.specs.Decoding.{IsRefused};
+ghost use Rattle.bincode_spec.specs.Decoding.{MayReportMemory};
 
 use bincode::config::Config;
 use bincode::de::{BorrowDecode, Decode};
@@ -17,17 +17,17 @@ pub struct ReadTwice<T> {
     pub borrowed: Result<(T, usize), DecodeError>,
 }
 
-/// Decodes a value from a slice in both ways. They agree on whether it succeeds, on the meaning and on the length,
-/// unless memory is refused.
+/// Decodes a value from a slice in both ways. They agree on whether it succeeds, on the meaning and on the length, or
+/// one of them fails with `Memory`, if the type may allocate.
 pub fn read_twice<'a, T: Decode<()> + BorrowDecode<&'a [u8], ()>, C: Config>(
     alloc: Global,
     src: &'a [u8],
     config: C,
 ) -> ReadTwice<T>
     ensures owned { IfOk result.owned (λ x. MatchResult result.borrowed (λ y. SameReading T.words.decodes_to x y)
-        (IsRefused T.words.may_allocate)) }
+        (MayReportMemory T.words.may_allocate)) }
     ensures borrowed { IfOk result.borrowed (λ y. MatchResult result.owned (λ x. SameReading T.words.decodes_to y x)
-        (IsRefused T.words.may_allocate)) }
+        (MayReportMemory T.words.may_allocate)) }
 {
     let owned = decode_from_slice(alloc, src, config);
     let borrowed = borrow_decode_from_slice(alloc, src, config);

@@ -4,7 +4,7 @@ ghost use Rattle.std.specs.Prelude.{MatchResult, Some, false, length, vec_capaci
 ghost use Rattle.bincode_base.specs.declared.error.DecodeError.TheVariants.{Memory};
 ghost use Rattle.bincode_spec.specs.Allowed.{AllowedWord};
 ghost use Rattle.bincode_spec.specs.Answer.{Allows};
-ghost use Rattle.bincode_spec.specs.Decoding.{IsRefused};
+ghost use Rattle.bincode_spec.specs.Decoding.{MayReportMemory};
 ghost use Rattle.bincode_spec.specs.Slice.{FrontWritten};
 ghost use Rattle.bincode.specs.Short.{TooShort};
 ghost use Rattle.std.specs.Range.{range_inclusive_exhausted};
@@ -45,7 +45,7 @@ pub fn round_trip_of_numbers<C: Config>(
 ) -> Result<RoundTrip<(u64, [u32; 4])>, EncodeError>
     ensures back { Allows C.bound 24 → IfOk result (λ trip. MatchResult trip.read
         (λ x. (⟦<(u64, [u32; 4]) as PartialEq>⟧.eq value.now x.0 ≡ true) × (x.1 ≡ trip.written))
-        (IsRefused (⟦<(u64, [u32; 4]) as Wire>⟧.words.may_allocate))) }
+        (MayReportMemory (⟦<(u64, [u32; 4]) as Wire>⟧.words.may_allocate))) }
     ensures short { IfErr result (TooShort (AllowedWord (⟦<(u64, [u32; 4]) as Wire>⟧.words.means value.now)
         (⟦<(u64, [u32; 4]) as Wire>⟧.words.format C.setting)) (length slice.old)) }
 {

@@ -1,4 +1,4 @@
-//! Worked rows of claim sizes: what each type claims as an element is what docs/FORMAT.md expects.
+//! Test vectors of claim sizes: what each type claims as an element is what docs/FORMAT.md expects.
 ghost use Rattle.std.specs.Prelude.{◌≡◌};
 
 use bincode::Wire;

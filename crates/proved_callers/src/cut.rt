@@ -1,4 +1,4 @@
-//! A reader and a writer of one's own, over a line that is cut after a number of calls.
+//! A user-defined reader and writer, over a line that is cut after a number of calls.
 ghost use Rattle.std.specs.Prelude.{◌≡◌, ◌+◌, ◌-◌, ◌^◌, ◌<◌, ◌≤◌};
 ghost use Rattle.std.specs.Prelude.{◌⊎◌, ◌++◌, [], length};
 ghost use Rattle.std.specs.Prelude.{⊤, Some};

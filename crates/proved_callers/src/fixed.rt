@@ -1,4 +1,4 @@
-//! A writer of one's own, into a vector of fixed capacity.
+//! A user-defined writer, into a vector of fixed capacity.
 ghost use Rattle.std.specs.Prelude.{◌≡◌, ◌+◌, ◌-◌, ◌<◌, ◌≤◌, ◌++◌, Some, [], length};
 ghost use Rattle.std.proofs.Common.{◌∙◌, ap, sym, inl};
 ghost use Rattle.std.proofs.Common.{le_refl, zero-le, append_assoc, arith, refl, length-append};

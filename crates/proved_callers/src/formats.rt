@@ -1,4 +1,4 @@
-//! Worked rows of formats: the format of each `impl` is what docs/FORMAT.md expects.
+//! Test vectors of formats: the format of each `impl` is what docs/FORMAT.md expects.
 ghost use Rattle.proved_callers.specs.Formats.{UnsignedRows, SignedRows, WholeRows, CharacterRows, ChoiceRows};
 ghost use Rattle.proved_callers.specs.Formats.{DurationRows, AddressRows, ListRows, TextRows, UnsignedWords};
 ghost use Rattle.proved_callers.specs.Formats.{SignedWords, ZigzagRows, NeedRows, ElementRows, IsBounded, IsUnbounded};

@@ -1,7 +1,7 @@
 //! What is read under a limit, and under a larger one.
 ghost use Rattle.std.specs.Prelude.{◌≡◌, IfOk, MatchResult};
 ghost use Rattle.bincode_spec.specs.Layers.Agree.{SameReading};
-ghost use Rattle.bincode_spec.specs.Decoding.{IsRefused};
+ghost use Rattle.bincode_spec.specs.Decoding.{MayReportMemory};
 ghost use Rattle.bincode_spec.specs.Limits.{IsNoTighter};
 
 use bincode::config::Config;
@@ -18,7 +18,8 @@ pub struct ReadUnderBoth<T> {
 }
 
 /// Decodes a value under two configurations of one setting; the second has no limit, or one at least as large. What the
-/// first decodes the second does, from as many bytes and with the same meaning, unless memory is refused.
+/// first decodes the second does, from as many bytes and with the same meaning, or it fails with `Memory`, if the type
+/// may allocate.
 pub fn read_under_both<T: Decode<()>, C: Config, D: Config>(
     alloc: Global,
     src: &[u8],
@@ -26,7 +27,8 @@ pub fn read_under_both<T: Decode<()>, C: Config, D: Config>(
     large: D,
 ) -> ReadUnderBoth<T>
     ensures { D.setting ≡ C.setting → IsNoTighter C.bound D.bound → IfOk result.small
-        (λ x. MatchResult result.large (λ y. SameReading T.words.decodes_to x y) (IsRefused T.words.may_allocate)) }
+        (λ x. MatchResult result.large (λ y. SameReading T.words.decodes_to x y)
+        (MayReportMemory T.words.may_allocate)) }
 {
     let small = decode_from_slice(alloc, src, small);
     let large = decode_from_slice(alloc, src, large);

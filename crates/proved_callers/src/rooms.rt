@@ -1,4 +1,4 @@
-//! Writing to any writer within its room.
+//! Writing to any writer within its capacity.
 ghost use Rattle.std.specs.Prelude.{ℕ, List, OnOk, IfErr};
 ghost use Rattle.bincode_spec.specs.Allowed.{AllowedWord};
 ghost use Rattle.bincode_spec.specs.Device.{WithinRoom, WriterFails};
@@ -10,7 +10,7 @@ use bincode::encode_into_writer;
 use bincode::error::EncodeError;
 use bincode::laws::Plain;
 
-/// Encodes a value. Succeeds exactly if it fits the writer's room, unless memory is refused or the device fails.
+/// Encodes a value. Succeeds only if it fits the writer's room; if it does, the error is `Memory` or of the device.
 pub fn fits_exactly<E: Encode + Plain, W: Writer, C: Config>(
     value: &E,
     writer: &mut W,

@@ -23,8 +23,8 @@ pub struct ReadByShape<T> {
 }
 
 /// Decodes a value from a slice in both ways. By shape an image of the value is decoded, from as many bytes and with
-/// its meaning, or both errors tell one fault, unless memory is refused. `None` if the allocation of the shape is
-/// refused.
+/// its meaning, or both errors tell one fault, or one of them is `Memory` where decoding may allocate. `None` only of a
+/// type whose shape takes memory.
 pub fn read_as_shaped<T: Described + Decode<()>, C: Config>(
     alloc: Global,
     src: &[u8],

@@ -1,4 +1,4 @@
-//! A reader of one's own that buffers a part of what remains.
+//! A user-defined reader that buffers a part of what remains.
 ghost use Rattle.std.specs.Prelude.{◌≡◌, [], length, min, ⊤};
 ghost use Rattle.std.proofs.Common.{inl, arith};
 ghost use Rattle.bincode_base.specs.declared.error.DecodeError.TheVariants.{UnexpectedEnd};

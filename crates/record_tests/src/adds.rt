@@ -39,7 +39,8 @@ fn is_printed(alloc: Global, error: &AddError, text: &str) -> bool {
 #[test]
 fn finds_where_a_store_goes_on(rt: HostRuntime) {
     let alloc = rt.alloc();
-    let torn = "torn at byte 16: nothing was added. `records repair` mends it, or says why not";
+    let torn =
+        "truncated at byte 16: nothing was added. `records repair` mends it, or says why not";
     let long = "no frame at byte 0, of a length of 65527: nothing was added. \
         `records repair` mends it, or says why not";
     assert!(rt;

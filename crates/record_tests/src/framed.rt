@@ -4,7 +4,7 @@ use crate::stores::all_true;
 use crc32c::checksum;
 use frames::{Frame, OVERHEAD, around, read_frame};
 
-/// The words of the worked frames of docs/FORMAT.md, and the frames.
+/// The words of the worked frames of docs/STORES.md, and the frames.
 static WORKED: [(&[u8], &[u8]); 3] = [
     (&[], &[0, 0, 0, 0, 199, 75, 103, 72]),
     (&[7], &[1, 0, 0, 0, 7, 114, 125, 169, 169]),

@@ -1,5 +1,5 @@
-//! The tests of frames, of stores of frames, and of what the program `records` does: words, the bytes of stores, what
-//! is printed, and streams that fail.
+//! The tests of frames, of stores of frames, and of what the program `records` does: arguments, the bytes of stores,
+//! what is printed, and streams that fail.
 #![tactic(auto)]
 
 #[cfg(test)]

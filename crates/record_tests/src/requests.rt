@@ -1,4 +1,4 @@
-//! What words ask for.
+//! What arguments ask for.
 
 use crate::stores::{SALT, TEA, has_word};
 use clap::Error;
@@ -64,7 +64,7 @@ static REQUESTS: [(&str, &str); 10] = [
     ("repair --drop-damaged f", "repair f true false"),
     ("repair f --cut", "repair f false true"),
     ("shape", "shape"),
-    ("--version", "0 records 2.0.0\n"),
+    ("--version", "0 records 0.1.0\n"),
 ];
 
 #[test]

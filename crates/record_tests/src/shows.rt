@@ -40,7 +40,7 @@ const LISTED: &str = "0: 16 bytes: \"salt\" at 40\n\
 #[test]
 fn lists_stores(rt: HostRuntime) {
     let torn = "0: 16 bytes: \"salt\" at 40\n\
-        f: torn at byte 16, records before it: 1, damaged frames: 0\n";
+        f: truncated at byte 16, records before it: 1, damaged frames: 0\n";
     let bit = "0: 16 bytes: \"salt\" at 40\n\
         16: 31 bytes: damaged\n\
         47: 16 bytes: \"salt\" at 40\n\
@@ -82,7 +82,7 @@ fn too_long() -> [u8; 63] {
 #[test]
 fn checks_stores(rt: HostRuntime) {
     let torn = "f: 63: 24 bytes: 3 damaged frames\n\
-        f: torn at byte 87, records before it: 3, damaged frames: 3\n";
+        f: truncated at byte 87, records before it: 3, damaged frames: 3\n";
     let long =
         "f: no frame at byte 16, of a length of 65527, records before it: 1, damaged frames: 0\n";
     let bit = "f: 16: 31 bytes: damaged\n\

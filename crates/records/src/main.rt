@@ -1,4 +1,4 @@
-//! Keeps the articles of a stock in files, each in a frame with a check, so that damage is told.
+//! Keeps the articles of a stock in files, each in a frame with a check, so that damage is reported.
 //!
 //!     records add FILE NAME PRICE [WEIGHT] [NOTE=TEXT ..]    appends an article
 //!     records add FILE -                                      appends the articles of the standard input, one a line

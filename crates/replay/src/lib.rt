@@ -1,4 +1,4 @@
-//! Logs of commands: each command stands in a frame, and a state comes back when all of them are applied again.
+//! Logs of commands: each command is in a frame, and a state comes back when all of them are applied again.
 #![tactic(auto)]
 
 pub mod machine;

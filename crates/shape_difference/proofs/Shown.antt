@@ -9,7 +9,7 @@ use Rattle.bincode_spec.specs.Charge.{Step}
 use Rattle.bincode_spec.specs.Format.{Format, Reading}
 use Rattle.bincode_spec.specs.Layers.Laws.{IsLawful, IsBalanced, BeginsWith, IsBacked, Settles}
 use Rattle.bincode_spec.specs.Meaning.{Meaning}
-use Rattle.bincode_spec.specs.Decoding.{IsRefused}
+use Rattle.bincode_spec.specs.Decoding.{MayReportMemory}
 use Rattle.bincode_spec.specs.Slice.{IsDecoded}
 use Rattle.bincode_lemmas.specs.AnswerLaws.{after-stays, after-passes}
 use Rattle.bincode_shape.specs.declared.shape.Shape.{Shape}
@@ -60,7 +60,7 @@ record Failing (F : Format Meaning) (limit : Option ℕ) (input : List ℕ) (May
   many : RefusesMany F limit count most input result
   limited : KeepsDecodeLimit F limit input result
 
-by_found : (MayAllocate : Type 0) (e : DecodeError) → (e ≡ Memory → ⊥) → IsDecode (IsRefused MayAllocate) (errors.Decode e) → ⊥
+by_found : (MayAllocate : Type 0) (e : DecodeError) → (e ≡ Memory → ⊥) → IsDecode (MayReportMemory MayAllocate) (errors.Decode e) → ⊥
 by_found MayAllocate e no_memory h = let k = h.1 in let same : e ≡ h.0 = cc in no_memory (same ∙ h.2.1)
 
 by_limit : (e : DecodeError) → (e ≡ LimitExceeded → ⊥) → IsDecode (λ why. why ≡ LimitExceeded) (errors.Decode e) → ⊥

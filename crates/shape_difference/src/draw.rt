@@ -1,4 +1,4 @@
-//! A word of an old shape whose first part that a new shape does not read is a sample.
+//! An encoding of an old shape whose first part that a new shape does not read is a sample.
 
 use crate::sample::{put_each, put_number, put_repeated, put_sample, put_tag};
 use bincode::config::Config;

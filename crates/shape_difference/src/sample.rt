@@ -1,4 +1,4 @@
-//! Words of shapes, as samples. Nothing is promised of them: what is told of a sample is tested by decoding it.
+//! Encodings of shapes, as samples. Nothing is promised of them: what is told of a sample is tested by decoding it.
 use bincode::config::{Config, Endianness, IntEncoding};
 use bincode::encode_into_slice;
 use bincode::shape::Shape;

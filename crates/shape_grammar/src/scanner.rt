@@ -1,4 +1,4 @@
-//! The rest of a text while it is parsed.
+//! What remains of a text while it is parsed.
 ghost use Rattle.std.specs.Prelude.{◌≡◌, ◌<◌, true, false};
 ghost use Rattle.shape_grammar.specs.Marks.{Mark, Word, IsEnd};
 

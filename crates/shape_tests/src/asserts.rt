@@ -1,4 +1,4 @@
-//! What a test asserts of several answers.
+//! Assertions over several results.
 
 use std::process::Abort;
 use test_helpers::rows::first_false;

@@ -1,4 +1,4 @@
-//! Which shapes in a text read all words of which others.
+//! Which shapes in a text read all encodings of which others.
 
 use bincode::config::{self, Config};
 use bincode::shape::Shape;

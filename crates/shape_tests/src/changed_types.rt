@@ -1,4 +1,4 @@
-//! Which types read all words of which others, in one line each.
+//! Which types read all encodings of which others, in one line each.
 
 use bincode::config;
 use bincode_evolution::evolution::type_reads_all;

@@ -1,4 +1,4 @@
-//! The shapes of tuples with each number of parts, of enums, and of types of one's own.
+//! The shapes of tuples with each number of parts, of enums, and of user-defined types.
 
 use crate::asserts::all_true;
 use crate::shaped::has_shape;

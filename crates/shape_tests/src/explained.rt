@@ -1,4 +1,4 @@
-//! The bytes and the places that are told where a new shape does not read an old one.
+//! The bytes and the places that are reported where a new shape does not read an old one.
 
 use bincode::config::{self, Config};
 use shape_difference::difference::explain;

@@ -146,6 +146,100 @@ fn scalars_have_images(rt: HostRuntime) {
     );
 }
 
+/// The numbers from 0.
+const COUNT: [u8; 15] = [0, 1, 2, 3, 4, 5, 6, 7, 8, 9, 10, 11, 12, 13, 14];
+
+/// Whether an image lists the numbers from 0.
+fn are_counted(image: &Value, count: usize) -> bool {
+    match image {
+        Value::List(items) => {
+            items.len() == count
+                && items.iter().zip(COUNT.iter()).all(|(
+                    item,
+                    number,
+                )| matches!(item, Value::Unsigned(held) if *held == u128::from(*number)))
+        }
+        _ => false,
+    }
+}
+
+/// Whether the tuple of the numbers from 0 is encoded as these bytes, and they are decoded by its shape as a list of
+/// so many numbers, which is encoded as them.
+fn counts<T: Described + Encode>(alloc: Global, value: &T, count: usize) -> bool {
+    let (Some(word), Some(shape)) = (COUNT.get(..count), T::shape(alloc)) else {
+        return false;
+    };
+    match decode_shaped(alloc, &shape, word, config::standard()) {
+        Ok((image, taken)) => {
+            taken == count
+                && are_counted(&image, count)
+                && is_word_of(value, word, config::standard())
+                && writes(&shape, &image, word, config::standard())
+        }
+        Err(_) => false,
+    }
+}
+
+/// The same. Retries once, since an allocation may be refused.
+fn has_counted_image<T: Described + Encode>(alloc: Global, value: &T, count: usize) -> bool {
+    counts(alloc, value, count) || counts(alloc, value, count)
+}
+
+/// The row `a value as each type's image`, of the tuples of three to fifteen parts. Those of one, two and sixteen are
+/// in a row below.
+#[test]
+fn tuples_have_images(rt: HostRuntime) {
+    let alloc = rt.alloc();
+    all_true(
+        &rt,
+        &[
+            has_counted_image(alloc, &(0u8, 1u8, 2u8), 3),
+            has_counted_image(alloc, &(0u8, 1u8, 2u8, 3u8), 4),
+            has_counted_image(alloc, &(0u8, 1u8, 2u8, 3u8, 4u8), 5),
+            has_counted_image(alloc, &(0u8, 1u8, 2u8, 3u8, 4u8, 5u8), 6),
+            has_counted_image(alloc, &(0u8, 1u8, 2u8, 3u8, 4u8, 5u8, 6u8), 7),
+            has_counted_image(alloc, &(0u8, 1u8, 2u8, 3u8, 4u8, 5u8, 6u8, 7u8), 8),
+            has_counted_image(alloc, &(0u8, 1u8, 2u8, 3u8, 4u8, 5u8, 6u8, 7u8, 8u8), 9),
+            has_counted_image(
+                alloc,
+                &(0u8, 1u8, 2u8, 3u8, 4u8, 5u8, 6u8, 7u8, 8u8, 9u8),
+                10,
+            ),
+            has_counted_image(
+                alloc,
+                &(0u8, 1u8, 2u8, 3u8, 4u8, 5u8, 6u8, 7u8, 8u8, 9u8, 10u8),
+                11,
+            ),
+            has_counted_image(
+                alloc,
+                &(0u8, 1u8, 2u8, 3u8, 4u8, 5u8, 6u8, 7u8, 8u8, 9u8, 10u8, 11u8),
+                12,
+            ),
+            has_counted_image(
+                alloc,
+                &(
+                    0u8, 1u8, 2u8, 3u8, 4u8, 5u8, 6u8, 7u8, 8u8, 9u8, 10u8, 11u8, 12u8,
+                ),
+                13,
+            ),
+            has_counted_image(
+                alloc,
+                &(
+                    0u8, 1u8, 2u8, 3u8, 4u8, 5u8, 6u8, 7u8, 8u8, 9u8, 10u8, 11u8, 12u8, 13u8,
+                ),
+                14,
+            ),
+            has_counted_image(
+                alloc,
+                &(
+                    0u8, 1u8, 2u8, 3u8, 4u8, 5u8, 6u8, 7u8, 8u8, 9u8, 10u8, 11u8, 12u8, 13u8, 14u8,
+                ),
+                15,
+            ),
+        ],
+    );
+}
+
 /// A tuple of sixteen.
 const SIXTEEN: (
     u8,

@@ -1,5 +1,5 @@
-//! Tests of shapes: what types tell of theirs, what each shape reads and writes, shapes in a text, and which shapes
-//! read the words of which others, with the bytes that show it (`changed_shapes`, `changed_types`, `changed_wholes`,
+//! Tests of shapes: those of types, what each shape reads and writes, shapes in a text, and which shapes read the
+//! encodings of which others, with the bytes that show it (`changed_shapes`, `changed_types`, `changed_wholes`,
 //! `explained`, `wordless`). Expected values come from the description of the format.
 #![tactic(auto)]
 

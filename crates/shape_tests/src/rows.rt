@@ -1,4 +1,4 @@
-//! Worked rows of shapes, by their labels.
+//! Test vectors of shapes, by their labels.
 
 use crate::asserts::each_holds;
 use crate::shaped::has_shape;

@@ -1,4 +1,4 @@
-//! The shapes of types, as they are printed.
+//! The shapes of types, printed.
 
 use bincode::shape::Described;
 use std::alloc::Global;

@@ -1,4 +1,4 @@
-//! How many values a word of a shape makes, how many of them are allowed, and what a list claims of a limit.
+//! How many values an encoding of a shape makes, how many of them are allowed, and what a list claims of a limit.
 
 use bincode::config::{self, Config};
 use bincode::shape::{

@@ -1,4 +1,4 @@
-//! Shapes without words, which have no text: each shape reads all of none.
+//! Shapes without an encoding, which have no text: each shape reads all of none.
 
 use bincode::config;
 use bincode::shape::Shape;

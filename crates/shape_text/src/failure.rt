@@ -20,7 +20,7 @@ pub enum DescribeError {
         why: DecodeError,
     },
     /// The input ends within the encoding at this offset.
-    #[error("torn at byte {offset}: the input ends within a value of {shape}")]
+    #[error("truncated at byte {offset}: the input ends within a value of {shape}")]
     Torn {
         shape: String,
         offset: u64,
@@ -31,12 +31,12 @@ pub enum DescribeError {
         shape: String,
     },
     /// The input ends within the frame at this offset.
-    #[error("torn at byte {offset}: the input ends within a frame")]
+    #[error("truncated at byte {offset}: the input ends within a frame")]
     TornFrame {
         offset: u64,
     },
     /// The frame at this offset has a length above the greatest. Where the next one begins is not known.
-    #[error("at byte {offset}: a frame of a word of {length} bytes, of which {longest} are allowed")]
+    #[error("at byte {offset}: the frame's length of {length} is above {longest}")]
     TooLong {
         offset: u64,
         length: u32,

@@ -1,4 +1,4 @@
-//! Lines of JSON, each about what stands at an offset.
+//! Lines of JSON, each about what is at an offset.
 
 use crate::failure::{DescribeError, not_written};
 use crate::json::write_json;

@@ -1,4 +1,4 @@
-//! What the program `describe` does with the input that its words name.
+//! What the program `describe` does with the input that its arguments name.
 
 use crate::comparing::run_comparison;
 use crate::describing::describe;

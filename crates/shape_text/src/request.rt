@@ -95,40 +95,40 @@ const AFTER_HELP: &str = "Shapes:
   (T)                          T, in brackets around a part
 
 Output:
-  A line of JSON for each encoding, with its place and its length in bytes:
+  A line of JSON for each encoding, with its offset and its length in bytes:
   {\"offset\":0,\"length\":3,\"value\":300}
 
-  A number that 64 bits hold is a number, another one a string. Readers that hold numbers as
-  doubles, as JavaScript does, lose digits above 2^53. Nothing is null, and so is an optional part
-  that is absent. A part that is there stands as it is; one that could be null itself, as () or an
-  option, as {\"some\":PART}. A variant is {\"TAG\":PART}, a list of elements without bytes
-  {\"count\":N}. An encoding of more values than are printed has \"values\":N in place of \"value\".
+  A number that fits 64 bits is a number, any other a string. Readers that hold numbers as doubles,
+  as JavaScript does, lose digits above 2^53. () is null, and so is an optional part that is absent.
+  A part that is present is printed as itself; one that could be null, such as () or another option,
+  as {\"some\":PART}. A variant is {\"TAG\":PART}, and a list of elements without bytes {\"count\":N}.
+  An encoding of more values than are printed has \"values\":N in place of \"value\".
 
-  With --frames place and length are those of the frame. In place of \"value\" stands
-  \"undecodable\":WHY, where the word begins with no encoding, or \"longer\":BYTES, where it goes on
-  after one. Damaged frames in a row share a line, with \"damaged\":COUNT and the bytes of all.
+  With --frames, offset and length are those of the frame. In place of \"value\" there is
+  \"undecodable\":WHY where its content begins with no encoding, or \"longer\":BYTES where bytes follow
+  one. Damaged frames in a row share a line, with \"damaged\":COUNT and the bytes of all.
 
 Changes of a type:
-  describe --reads NEW OLD tells whether each file of values of the shape OLD is read by the shape
-  NEW, as the same values. --config, --fixed and --big-endian choose one setting; without them it
-  tells of all four. Where a file is not read, it shows bytes of OLD that NEW does not read as the
-  same, and where the shapes differ: parts and variants are counted from 0. It is told by the rules
-  of docs/FORMAT.md, section 16. No limit is looked at: under one, NEW may need a larger one.
+  describe --reads NEW OLD checks whether each file of values of the shape OLD is read by the shape
+  NEW, as the same values. --config, --fixed and --big-endian choose one setting; without them all
+  four are checked. Where a file is not read, it shows bytes of OLD that NEW does not read as the
+  same, and where the shapes differ: parts and variants are counted from 0. docs/SHAPES.md, section
+  4, has the rules. No limit is looked at: under one, NEW may need a larger one.
 
-  @FILE in place of a shape is a file that holds its text. describe --reads - tells of the shapes in
+  @FILE in place of a shape is a file that holds its text. describe --reads - checks the shapes in
   the lines of the standard input, each NEW before its OLD.
 
 Status:
   0  all is whole; with --reads, each file of OLD is read by NEW
-  1  the input is damaged or torn, or holds what is no encoding of the shape; with --reads, not each
-     file of OLD is read
+  1  the input is damaged or truncated, or holds what is no encoding of the shape; with --reads, not
+     each file of OLD is read
   2  wrong arguments
   3  the file, the standard input or the standard output fails, or memory is refused";
 
 /// The program's command line.
 static DESCRIBE: Program = Program {
     name: "describe",
-    version: "2.0.0",
+    version: "0.1.0",
     about: "Prints what a file in the format of bincode holds, by the shape of its values",
     after_help: AFTER_HELP,
     usage: Some(USAGE),
@@ -194,21 +194,21 @@ static DESCRIBE: Program = Program {
                 taken: Taken::U32,
                 default: &[],
             },
-            help: "The greatest length of a word in frames, in bytes [default: 1048576]",
+            help: "The greatest length of a frame's content, in bytes [default: 1048576]",
             conflicts: &[],
             needs: &["frames"],
         },
         Word {
             id: "reads",
             kind: Kind::Flag,
-            help: "Tells whether the shape NEW reads all that the shape OLD wrote",
+            help: "Checks whether the shape NEW reads all that the shape OLD wrote",
             conflicts: &["frames", "limit", "values"],
             needs: &[],
         },
         Word {
             id: "shape",
             kind: Kind::One("SHAPE"),
-            help: "The shape of the values, as (u8, [u16], text?, u32|text); with --reads the new one",
+            help: "The shape of the values, such as (u8, [u16], text?, u32|text); with --reads the new one",
             conflicts: &[],
             needs: &[],
         },

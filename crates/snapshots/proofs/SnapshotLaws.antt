@@ -81,7 +81,7 @@ module _ {A : Type 0} (W : Words A) (s : Setting) (limit : Option ℕ) where
         let one = one-word f word d.word [] d.remaining w.meaning d.meaning u.0 d.steps u.1 d.is_word (append-nil word ∙ d.input_is) in
         exact.comes_back state other w.meaning entry.is_valid w.is_meant (subst (λ z. W.decodes_to z other) (sym one.1) d.is_decoded)
 
-    -- it fails only with refused memory
+    -- it fails only with `Memory`
     no-state-fault : (e : LoadError) → IsStateFault F limit word e → IsNoMemory e
     no-state-fault failures.Short h = h
     no-state-fault failures.Damaged h = h
@@ -114,7 +114,7 @@ module _ {A : Type 0} (W : Words A) (s : Setting) (limit : Option ℕ) where
       let behind : drop 40 bytes ≡ saved.word = sym (drop-drop 8 32 bytes) ∙ ap (drop 8) body ∙ drop-append_seam (to_le_bytes w64 commands) saved.word in
       no-state-fault state saved.word saved.is_entry e (subst (λ z. IsStateFault F limit z e) behind h.1)
 
--- if words fit the limit, decoding one again fails only with refused memory
+-- if words fit the limit, decoding one again fails only with `Memory`
 pub read-memory : {A : Type 0} (W : Words A) (s : Setting) (limit : Option ℕ) (state : A) (word : List ℕ) → AllowedWord (W.means state) (W.format s) word → (MayAllocate : Type 0) (e : DecodeError) →
     FindsWords {A = Unit {0}} (W.format s) limit MayAllocate word (Err e) → FitsLimits W s limit state → e ≡ Memory
 read-memory W s limit state word allowed MayAllocate e found fits =

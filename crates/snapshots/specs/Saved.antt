@@ -31,7 +31,7 @@ IsRestoreFault {A} {M} stands_for F limit decodes_to bytes failures.NoState =
     (commands : ℕ) × (saved : A) × IsLoaded F limit decodes_to bytes commands saved × ((machine : M) → stands_for saved machine → ⊥)
 IsRestoreFault stands_for F limit decodes_to bytes (failures.Memory _) = Unit {0}
 
--- memory was refused
+-- the error says that an allocation was refused: any such error
 abbrev pub IsRestoreMemory : RestoreError → Type 0
 IsRestoreMemory (failures.Load why) = IsNoMemory why
 IsRestoreMemory failures.NoState = ⊥

@@ -66,7 +66,7 @@ IsStateFault F limit word (failures.Memory _) = Unit {0}
 abbrev pub IsLoadFault : Format Meaning → Option ℕ → List ℕ → LoadError → Type 0
 IsLoadFault F limit bytes e = IsHeaderFault bytes e ⊎ (DigestFits bytes × IsStateFault F limit (drop 40 bytes) e)
 
--- memory was refused
+-- the error says that an allocation was refused: any such error
 abbrev pub IsNoMemory : LoadError → Type 0
 IsNoMemory (failures.Memory _) = Unit {0}
 IsNoMemory failures.Short = ⊥
@@ -78,7 +78,7 @@ IsNoMemory (failures.Longer _) = ⊥
 abbrev pub FitsLimits : {A : Type 0} → Words A → Setting → Option ℕ → A → Type 0
 FitsLimits W s limit state = (word : List ℕ) → AllowedWord (W.means state) (W.format s) word → FitsLimit (W.format s) limit word
 
--- memory was refused
+-- the error is one of memory: any such error
 abbrev pub IsSaveMemory : SaveError → Type 0
 IsSaveMemory (saving.Encode e) = e ≡ encoding.Memory
 IsSaveMemory (saving.ReadBack e) = e ≡ decoding.Memory

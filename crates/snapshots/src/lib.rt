@@ -1,5 +1,5 @@
 //! Snapshots of machines, from which a log is replayed without the commands that they stand for: commands carry their
-//! numbers in the log. docs/FORMAT.md has the format of a snapshot.
+//! numbers in the log. docs/STORES.md has the format of a snapshot.
 #![tactic(auto)]
 
 pub mod numbered;

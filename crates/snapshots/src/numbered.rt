@@ -1,4 +1,4 @@
-//! Commands with their numbers, so that a log tells which commands it has.
+//! Commands with their numbers, so that a log shows which commands it has.
 ghost use Rattle.std.specs.Prelude.{ℕ};
 ghost use Rattle.snapshots.specs.Numbers.{AppliesNext, RefusesNext};
 

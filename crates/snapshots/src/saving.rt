@@ -74,7 +74,7 @@ pub fn save_machine<M: Saving, C: Config>(
 ) -> Result<Vec<u8>, SaveError>
     ensures saved { IfOk result (λ v. IsSavedAs M.stands_for M.Saved.words C.setting C.bound numbered.now.next
         numbered.now.machine v.items) }
-    // A machine of which all that is saved fits the limit is refused only if memory is.
+    // Of a machine of which all that is saved fits the limit the error is one of memory.
     ensures fits { FitsSnapshot M.stands_for M.Saved.words C.setting C.bound numbered.now.machine
         → IfErr result IsSaveMemory }
 {
@@ -97,7 +97,7 @@ pub fn restore_machine<M: Saving, C: Config>(
     // or it is told why they are of none.
     ensures fault { IfErr result (IsRestoreFault M.stands_for (M.Saved.words.format C.setting) C.bound
         M.Saved.words.decodes_to bytes.now) }
-    // What `save_machine` returned is restored, unless memory is refused: the same number, and the same state.
+    // What `save_machine` returned is restored, the same number and the same state, or the error is `Memory`.
     ensures back { (commands : ℕ) (machine : M) → commands < 2 ^ 64
         → IsSavedAs M.stands_for M.Saved.words C.setting C.bound commands machine bytes.now
         → MatchResult result (λ numbered. (numbered.next ≡ commands)

@@ -1,4 +1,4 @@
-//! Snapshots: a state in bytes, with the number of commands that it stands for and a digest.
+//! Snapshots: a state in bytes, with the number of commands up to it and a digest.
 ghost use Rattle.std.specs.Prelude.{◌≡◌, ◌<◌, ◌^◌, ◌++◌, ℕ, ◌↔◌, length, true, IsTrue, IfErr, IfOk, MatchResult};
 ghost use Rattle.std.specs.Int.{w64, to_le_bytes};
 ghost use Rattle.sha2.specs.Sha256.{sha256};
@@ -43,7 +43,7 @@ pub enum SaveError {
     /// Encoding failed.
     #[error("{0}")]
     Encode(EncodeError),
-    /// Decoding the encoding again failed: it passes the limit, or memory was refused.
+    /// Decoding the encoding again failed: it passes the limit, or the error is `Memory`.
     #[error("it cannot be read back: {0}")]
     ReadBack(DecodeError),
     /// An allocation for the snapshot was refused.
@@ -84,7 +84,7 @@ pub fn save<T: Encode + Decode<()> + Exact, C: Config>(
     config: C,
 ) -> Result<Vec<u8>, SaveError>
     ensures saved { IfOk result (λ v. IsSnapshot T.words C.setting C.bound commands state.now v.items) }
-    // A state that fits the limit is refused only if memory is.
+    // Of a state that fits the limit the error is one of memory.
     ensures fits { FitsLimits T.words C.setting C.bound state.now → IfErr result IsSaveMemory }
 {
     let word = readable_word(alloc, state, config)?;
@@ -151,7 +151,7 @@ pub fn load<T: Decode<()> + Exact, C: Config>(
         x.1) }
     // Else it is told why they are not.
     ensures fault { IfErr result (IsLoadFault (T.words.format C.setting) C.bound bytes.now) }
-    // What `save` returned is loaded again, unless memory is refused: the same number, and an equal state.
+    // What `save` returned is loaded again, the same number and an equal state, or the error is `Memory`.
     ensures back { (commands : ℕ) (state : T) → commands < 2 ^ 64
         → IsSnapshot T.words C.setting C.bound commands state bytes.now
         → MatchResult result (λ x. (x.0 ≡ commands) × (T.eq state x.1 ≡ true)) IsNoMemory }

@@ -26,7 +26,7 @@ use thiserror::Error;
 #[derive(Debug, Drop, Error)]
 pub enum AddError {
     /// The store ends within a frame. Nothing was written.
-    #[error("torn at byte {offset}: nothing was added. `records repair` mends it, or says why not")]
+    #[error("truncated at byte {offset}: nothing was added. `records repair` mends it, or says why not")]
     Torn {
         /// The number of bytes before that frame.
         offset: usize,

@@ -1,4 +1,4 @@
-//! Articles as words: `NAME PRICE [WEIGHT] [NOTE=TEXT ..]`.
+//! Articles as arguments: `NAME PRICE [WEIGHT] [NOTE=TEXT ..]`.
 
 use crate::article::Article;
 use std::alloc::{AllocError, Global};

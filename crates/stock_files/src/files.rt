@@ -1,4 +1,4 @@
-//! The files that stores stand in.
+//! The files of stores: locks, cuts and replacements.
 
 use framed_store::streams::ReadError;
 use std::alloc::Global;

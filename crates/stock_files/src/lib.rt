@@ -1,5 +1,5 @@
-//! What the program `records` does: which words it is given, what it does with the bytes of a store of frames, what it
-//! says, and the status.
+//! What the program `records` does: its arguments, what it does with the bytes of a store of frames, what it prints,
+//! and the status.
 #![tactic(auto)]
 
 pub mod adding;

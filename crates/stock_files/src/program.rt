@@ -1,4 +1,4 @@
-//! What the program `records` does with the files that its words name.
+//! What the program `records` does with the files that its arguments name.
 
 use crate::adding::{AddError, add_lines, add_one, next_offset};
 use crate::article::Article;

@@ -42,7 +42,7 @@ pub enum Request {
 /// What stands at the end of the help.
 const STATUSES: &str = "Status:
   0  done, and each file is whole
-  1  a file is damaged or torn
+  1  a file is damaged or truncated
   2  wrong arguments
   3  a file, the standard input or the standard output fails, or a line is no article
 
@@ -55,7 +55,7 @@ has nothing to do.";
 /// The program's command line.
 static RECORDS: Program = Program {
     name: "records",
-    version: "2.0.0",
+    version: "0.1.0",
     about: "Keeps the articles of a stock in files, each in a frame with a check",
     after_help: STATUSES,
     usage: None,
@@ -63,7 +63,7 @@ static RECORDS: Program = Program {
     commands: &[
         Line {
             name: "add",
-            about: "Appends articles to a file that is not torn, and prints their places",
+            about: "Appends articles to a file that is not truncated, and prints their places",
             usage: Some(
                 "records add FILE NAME PRICE [WEIGHT] [NOTE=TEXT ..]
        records add FILE -",
@@ -112,7 +112,7 @@ static RECORDS: Program = Program {
         },
         Line {
             name: "repair",
-            about: "Cuts a file off after its last frame, where it is torn",
+            about: "Cuts a truncated file off after its last frame",
             usage: None,
             words: &[
                 Word {
@@ -125,7 +125,7 @@ static RECORDS: Program = Program {
                 Word {
                     id: "cut",
                     kind: Kind::Flag,
-                    help: "Cuts the file off even where a whole frame stands in what is lost",
+                    help: "Cuts the file off even where a whole frame is in what is lost",
                     conflicts: &[],
                     needs: &[],
                 },

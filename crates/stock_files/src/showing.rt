@@ -288,7 +288,7 @@ fn print_end<W: Write>(out: &mut W, file: &str, seen: &Seen, ending: Ending) -> 
         ),
         Ending::Torn { offset } => writeln!(
             out,
-            "{file}: torn at byte {offset}, records before it: {articles}, damaged frames: {others}"
+            "{file}: truncated at byte {offset}, records before it: {articles}, damaged frames: {others}"
         ),
         Ending::TooLong { offset, length } => writeln!(
             out,

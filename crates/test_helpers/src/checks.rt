@@ -1,4 +1,4 @@
-//! Checks of a type: that its words are read and written, and what is read after a fault.
+//! Checks of a type: its encodings are written and read, and what remains after a fault.
 
 use bincode::config::Config;
 use bincode::de::read::SliceReader;

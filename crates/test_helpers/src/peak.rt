@@ -1,4 +1,4 @@
-//! The room that a process has asked for.
+//! The most memory that a process has asked for.
 
 use std::fs;
 

@@ -1,4 +1,4 @@
-//! Runs the worked rows of the format, and prints which of them hold.
+//! Runs the test vectors of the format, and prints which of them hold.
 #![tactic(auto)]
 
 use anyhow::ensure;

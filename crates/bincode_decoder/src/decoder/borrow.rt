@@ -1,4 +1,4 @@
-//! Decoders that lend the bytes of their source.
+//! Decoders that give out borrowed bytes of their source.
 ghost use Rattle.std.specs.Prelude.{ℕ, List};
 ghost use Rattle.bincode_spec.specs.Layers.Lending.{LendsBytes};
 

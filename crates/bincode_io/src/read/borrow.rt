@@ -1,4 +1,4 @@
-//! Readers that lend the bytes of their source.
+//! Readers that give out borrowed bytes of their source.
 ghost use Rattle.std.specs.Prelude.{◌≡◌, ◌++◌, length, IfOk, IfErr};
 ghost use Rattle.bincode_spec.specs.Layers.Pieces.{FallsShort};
 ghost use Rattle.bincode_spec.specs.Layers.Lending.{TakesBytes};

@@ -2,7 +2,7 @@
 use Rattle.std.specs.Prelude.{◌≡◌, ℕ, Result, Ok, Err, IsErrAnd}
 use Rattle.bincode_base.specs.declared.error.DecodeError.{DecodeError}
 use Rattle.bincode_base.specs.declared.error.DecodeError.TheVariants.{UnexpectedEnd, LimitExceeded}
-use Rattle.bincode_spec.specs.Decoding.{IsRefused}
+use Rattle.bincode_spec.specs.Decoding.{MayReportMemory}
 use Rattle.bincode_spec.specs.Fault.{Fault, Tells, IsEnd}
 use Rattle.bincode_spec.specs.Meaning.{Meaning}
 use Rattle.bincode_spec.specs.Slice.{EndsSlice}
@@ -36,4 +36,4 @@ WasCut result = IsErrAnd result IsCut
 
 -- the result is `Memory`, and decoding may allocate
 abbrev pub WasRefused : {T : Type 0} → Type 0 → Result T DecodeError → Type 0
-WasRefused MayAllocate result = IsErrAnd result (IsRefused MayAllocate)
+WasRefused MayAllocate result = IsErrAnd result (MayReportMemory MayAllocate)
