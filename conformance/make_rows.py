@@ -165,11 +165,11 @@ def of_ends():
     refused("ends", "a stream under a limit", "u64", b"", {"stream": True, "limit": 7}, name="LimitExceeded")
 
 
-def limited(label, shape, word, value, least, how=STANDARD, taken=None):
+def limited(label, shape, word, value, least, how=STANDARD, taken=None, family="limits"):
     """A word under its least limit, and under one that is one below."""
-    read("limits", f"{label}, {least}", shape, word, value, {**how, "limit": least}, taken)
+    read(family, f"{label}, {least}", shape, word, value, {**how, "limit": least}, taken)
     if least:
-        refused("limits", f"{label}, {least - 1}", shape, word, {**how, "limit": least - 1}, name="LimitExceeded")
+        refused(family, f"{label}, {least - 1}", shape, word, {**how, "limit": least - 1}, name="LimitExceeded")
 
 
 def of_limits():
@@ -386,6 +386,12 @@ def of_short_slices():
     for room in 0, 1, 2, 4:
         into("numbers", "[u16]", [7, 300], [of_bytes(2), of_bytes(7), of_bytes(251), of_bytes(44, 1)], room)
     into("nothing", "()", None, [], 0)
+    for room in 0, 3, 4, 6:
+        into("a float", "type f32", 1.5, [single(1.5)], room)
+    for room in 7, 8:
+        into("a wide float, big fixint", "type f64", -2.0, [double(-2.0, BIG_FIXED)], room, BIG_FIXED)
+    for room in 1, 4, 5, 7:
+        into("a float in a tuple", "type (u8, f32, u16)", [1, 1.5, 300], [of_bytes(1), single(1.5), of_bytes(251), of_bytes(44, 1)], room)
 
 
 def unfit(label, shape, value, how=STANDARD):
@@ -525,6 +531,145 @@ def of_pointers():
         refused(family, f"{of_type}, limit of {7 + claim}", f"type {of_type}", of_bytes(1, 1, 97), {"limit": 7 + claim}, name="LimitExceeded")
 
 
+# Floats and their bits by IEEE 754, which as numbers are the digits that are written. A NaN is written by its first pattern.
+BITS = {
+    "f32": {0.0: 0x00000000, 1.0: 0x3f800000, 1.5: 0x3fc00000, -2.0: 0xc0000000, 0.1: 0x3dcccccd, 3.1415927: 0x40490fdb, 1e-45: 0x00000001,
+            1.1754942e-38: 0x007fffff, 1.1754944e-38: 0x00800000, 3.4028235e38: 0x7f7fffff, -3.4028235e38: 0xff7fffff, "inf": 0x7f800000, "-inf": 0xff800000},
+    "f64": {0.0: 0x0000000000000000, 1.0: 0x3ff0000000000000, 1.5: 0x3ff8000000000000, -2.0: 0xc000000000000000, 0.1: 0x3fb999999999999a,
+            3.141592653589793: 0x400921fb54442d18, 5e-324: 0x0000000000000001, 2.225073858507201e-308: 0x000fffffffffffff, 2.2250738585072014e-308: 0x0010000000000000,
+            1.7976931348623157e308: 0x7fefffffffffffff, -1.7976931348623157e308: 0xffefffffffffffff, "inf": 0x7ff0000000000000, "-inf": 0xfff0000000000000},
+}
+NEGATIVE_ZEROS = {"f32": 0x80000000, "f64": 0x8000000000000000}
+NANS = {
+    "f32": {"quiet": 0x7fc00000, "negative": 0xffc00000, "least": 0x7f800001, "greatest signalling": 0x7fbfffff, "negative signalling": 0xff800001,
+            "with a payload": 0x7fc12345, "greatest": 0x7fffffff, "all ones": 0xffffffff},
+    "f64": {"quiet": 0x7ff8000000000000, "negative": 0xfff8000000000000, "least": 0x7ff0000000000001, "greatest signalling": 0x7ff7ffffffffffff,
+            "negative signalling": 0xfff0000000000001, "with a payload": 0x7ff8123456789abc, "greatest": 0x7fffffffffffffff, "all ones": 0xffffffffffffffff},
+}
+FLOAT_WIDTHS = {"f32": 4, "f64": 8}
+
+
+def single(value, how=STANDARD):
+    """The bytes of an `f32`."""
+    return digits(NANS["f32"]["quiet"] if value == "NaN" else BITS["f32"][value], 4, how)
+
+
+def double(value, how=STANDARD):
+    return digits(NANS["f64"]["quiet"] if value == "NaN" else BITS["f64"][value], 8, how)
+
+
+def of_floats():
+    """The bits of floats, in the byte order, whatever the integer encoding is; every NaN as one."""
+    family = "floats"
+    for name, width in FLOAT_WIDTHS.items():
+        quiet = NANS[name]["quiet"]
+        for setting, how in SETTINGS.items():
+            for value, bits in [*BITS[name].items(), (-0.0, NEGATIVE_ZEROS[name]), ("NaN", quiet)]:
+                written(family, f"{name} {value}, {setting}", f"type {name}", value, digits(bits, width, how), how)
+        for label, bits in NANS[name].items():
+            if bits != quiet:
+                read(family, f"{name}, a NaN, {label}", f"type {name}", digits(bits, width), "NaN")
+                read(family, f"{name}, a NaN, {label}, big fixint", f"type {name}", digits(bits, width, BIG_FIXED), "NaN", BIG_FIXED)
+        read(family, f"{name}, bytes that follow are left", f"type {name}", digits(BITS[name][1.5], width) + of_bytes(1, 2), 1.5, taken=width)
+        for value in -2.0, "NaN", "-inf":
+            bits = quiet if value == "NaN" else BITS[name][value]
+            written(family, f"ordered {name} {value}", f"type OrderedFloat<{name}>", value, digits(bits, width))
+        written(family, f"ordered {name} -0.0, big", f"type OrderedFloat<{name}>", -0.0, digits(NEGATIVE_ZEROS[name], width, BIG), BIG)
+        for bits in NANS[name]["negative"], NANS[name]["least"]:
+            read(family, f"ordered {name}, a NaN, {bits:x}", f"type OrderedFloat<{name}>", digits(bits, width), "NaN")
+    of_floats_that_end()
+    of_floats_in_others()
+    of_limits_of_floats()
+    of_float_keys()
+
+
+def of_floats_that_end():
+    """A float is read at once, so that what is missing of it is known."""
+    family = "floats"
+    for name, width in FLOAT_WIDTHS.items():
+        for count in range(width):
+            how = (STANDARD, BIG, FIXED, BIG_FIXED)[count % 4]
+            refused(family, f"{name}, {count} of {width} bytes", f"type {name}", bytes([255] * count), how, name="UnexpectedEnd", additional=width - count)
+        refused(family, f"ordered {name}, one byte less", f"type OrderedFloat<{name}>", bytes(width - 1), name="UnexpectedEnd", additional=1)
+        refused(family, f"{name} of a stream that ends", f"type {name}", bytes(width - 1), {"stream": True}, name="Io")
+        read(family, f"{name} of a stream", f"type {name}", digits(BITS[name][1.5], width), 1.5, {"stream": True})
+    cut = [("(f32, u16)", single(1.5)), ("(f32, u16)", single(1.5)[:3]), ("Option<f64>", of_bytes(1)), ("Option<f64>", of_bytes(1) + bytes(7)), ("[f32; 2]", single(1.5) + bytes(3)),
+           ("Vec<f64>", of_bytes(2) + double(1.5)), ("Vec<f64>", of_bytes(1) + bytes(7)), ("BTreeMap<OrderedFloat<f32>, u8>", of_bytes(1) + single(1.5))]
+    for of_type, front in cut:
+        refused(family, f"{of_type}, {len(front)} bytes", f"type {of_type}", front, name="UnexpectedEnd")
+
+
+def of_floats_in_others():
+    family = "floats"
+    for setting, how in SETTINGS.items():
+        written(family, f"a tuple, {setting}", "type (f32, u16)", [1.5, 300], single(1.5, how) + unsigned(300, 2, how), how)
+        written(family, f"a list, {setting}", "type Vec<f64>", [1.5, -2.0], length(2, how) + double(1.5, how) + double(-2.0, how), how)
+        written(family, f"an array, {setting}", "type [f32; 2]", [0.1, "NaN"], single(0.1, how) + single("NaN", how), how)
+    written(family, "Some", "type Option<f64>", 1.5, of_bytes(1) + double(1.5))
+    written(family, "Some of a NaN", "type Option<f64>", "NaN", of_bytes(1) + double("NaN"))
+    written(family, "None", "type Option<f64>", None, of_bytes(0))
+    written(family, "no floats", "type Vec<f32>", [], of_bytes(0))
+    written(family, "floats of two widths", "type (f64, f32)", [0.1, 0.1], double(0.1) + single(0.1))
+    written(family, "floats around a number", "type (f32, i16, f64)", [-2.0, -1, "inf"], single(-2.0) + of_bytes(1) + double("inf"))
+    written(family, "Ok", "type Result<f32, f64>", {"0": 1.0}, of_bytes(0) + single(1.0))
+    written(family, "Excluded", "type Bound<f64>", {"2": 1.0}, of_bytes(2) + double(1.0))
+    written(family, "a range", "type Range<f32>", [-2.0, 1.5], single(-2.0) + single(1.5))
+    for of_type in "Box<f32>", "Rc<f32>", "Cell<f32>", "RefCell<f32>", "Reverse<OrderedFloat<f32>>", "Cow<OrderedFloat<f32>>":
+        written(family, of_type, f"type {of_type}", 1.5, single(1.5))
+
+
+def of_limits_of_floats():
+    """A float charges its width under every integer encoding, and a container claims as much for it."""
+    family = "floats"
+    for name, width in FLOAT_WIDTHS.items():
+        for of_type in name, f"OrderedFloat<{name}>":
+            for how in STANDARD, BIG_FIXED:
+                limited(of_type if how is STANDARD else f"{of_type}, big fixint", f"type {of_type}", digits(BITS[name][1.5], width, how), 1.5, width, how, family=family)
+        refused(family, f"{name} of nothing, {width}", f"type {name}", b"", {"limit": width}, name="UnexpectedEnd", additional=width)
+        refused(family, f"{name} of nothing, {width - 1}", f"type {name}", b"", {"limit": width - 1}, name="LimitExceeded")
+    limited("a NaN", "type f64", digits(NANS["f64"]["all ones"], 8), "NaN", 8, family=family)
+    limited("Some", "type Option<f64>", of_bytes(1) + double(1.5), 1.5, 1 + 8, family=family)
+    limited("None", "type Option<f64>", of_bytes(0), None, 1, family=family)
+    limited("a tuple", "type (f32, u16)", single(1.5) + of_bytes(7), [1.5, 7], 4 + 2, family=family)
+    limited("an array", "type [f32; 2]", single(1.5) + single(-2.0), [1.5, -2.0], 2 * 4, family=family)
+    limited("Err", "type Result<f32, f64>", of_bytes(1) + double(1.5), {"1": 1.5}, 4 + 8, family=family)
+    values = [1.5, -2.0, 0.1]
+    for count in range(4):
+        word = of_bytes(count) + b"".join(double(value) for value in values[:count])
+        limited(f"a list of {count}", "type Vec<f64>", word, values[:count], 8 + count * 8, family=family)
+    limited("a list, big fixint", "type Vec<f32>", length(2, BIG_FIXED) + single(1.5, BIG_FIXED) + single(0.1, BIG_FIXED), [1.5, 0.1], 8 + 2 * 4, BIG_FIXED, family=family)
+    refused(family, "a list without its floats, 24", "type Vec<f64>", of_bytes(2), {"limit": 8 + 2 * 8}, name="UnexpectedEnd")
+    refused(family, "a list without its floats, 23", "type Vec<f64>", of_bytes(2), {"limit": 8 + 2 * 8 - 1}, name="LimitExceeded")
+    limited("a map", "type BTreeMap<OrderedFloat<f32>, u8>", of_bytes(2) + single(-2.0) + of_bytes(8) + single(1.5) + of_bytes(7), [[-2.0, 8], [1.5, 7]], 8 + 2 * 5, family=family)
+    limited("a set", "type BTreeSet<OrderedFloat<f64>>", of_bytes(2) + double(1.5) + double(-2.0), [-2.0, 1.5], 8 + 2 * 8, family=family)
+
+
+def of_float_keys():
+    """Keys go by their value, and NaN is last. The two zeros are one key, and so are all NaNs: the first that was read stays."""
+    family, of_map, of_set = "floats", "type BTreeMap<OrderedFloat<f32>, u8>", "type BTreeSet<OrderedFloat<f64>>"
+    zero, negative = single(0.0), digits(NEGATIVE_ZEROS["f32"], 4)
+    written(family, "a map", of_map, [[-2.0, 8], [1.5, 7]], of_bytes(2) + single(-2.0) + of_bytes(8) + single(1.5) + of_bytes(7))
+    read(family, "a map out of order", of_map, of_bytes(2) + single(1.5) + of_bytes(7) + single(-2.0) + of_bytes(8), [[-2.0, 8], [1.5, 7]])
+    read(family, "a key twice", of_map, of_bytes(2) + single(1.5) + of_bytes(7) + single(1.5) + of_bytes(8), [[1.5, 8]])
+    read(family, "two zeros, the negative one first", of_map, of_bytes(2) + negative + of_bytes(7) + zero + of_bytes(8), [[-0.0, 8]])
+    read(family, "two zeros, the negative one last", of_map, of_bytes(2) + zero + of_bytes(7) + negative + of_bytes(8), [[0.0, 8]])
+    written(family, "a negative zero as a key", of_map, [[-0.0, 8]], of_bytes(1) + negative + of_bytes(8))
+    read(family, "two zeros, hashed", "type HashMap<OrderedFloat<f32>, u8>", of_bytes(2) + negative + of_bytes(7) + zero + of_bytes(8), [[-0.0, 8]])
+    read(family, "two zeros of a set", "type BTreeSet<OrderedFloat<f32>>", of_bytes(3) + zero + single(-2.0) + negative, [-2.0, 0.0])
+    read(family, "two zeros of a hashed set", "type HashSet<OrderedFloat<f32>>", of_bytes(2) + negative + zero, [-0.0])
+    nans = [digits(NANS["f32"][label], 4) for label in ("all ones", "quiet", "least")]
+    read(family, "three NaNs", of_map, of_bytes(3) + b"".join(nan + of_bytes(place) for place, nan in enumerate(nans)), [["NaN", 2]])
+    read(family, "three NaNs, hashed", "type HashSet<OrderedFloat<f32>>", of_bytes(3) + b"".join(nans), ["NaN"])
+    ascending = ["-inf", -1.7976931348623157e308, -2.0, 0.0, 5e-324, 2.225073858507201e-308, 2.2250738585072014e-308, 0.1, 1.0, 1.5, 1.7976931348623157e308, "inf", "NaN"]
+    for setting, how in SETTINGS.items():
+        written(family, f"a set, {setting}", of_set, ascending, length(13, how) + b"".join(double(value, how) for value in ascending), how)
+    read(family, "a set out of order", of_set, of_bytes(13) + b"".join(map(double, reversed(ascending))), ascending)
+    turned = ["NaN", "inf", 1.5, 0.0, -2.0, "-inf"]
+    written(family, "the other way round", "type BTreeSet<Reverse<OrderedFloat<f32>>>", turned, of_bytes(6) + b"".join(map(single, turned)))
+    pairs = [[-2.0, 9], [1.5, 1], [1.5, 2], ["NaN", 0]]
+    written(family, "pairs as keys", "type BTreeSet<(OrderedFloat<f32>, u8)>", pairs, of_bytes(4) + b"".join(single(value) + of_bytes(number) for value, number in pairs))
+
+
 def of_examples():
     """The examples of section 12 that the family `worked` does not have, and its nested list under each limit around the two that matter."""
     family = "examples"
@@ -550,6 +695,13 @@ def of_examples():
     read(family, "a map with random keys", "type HashMap<u8, u8>", of_bytes(2, 1, 10, 1, 20), [[1, 20]])
     read(family, "a set with random keys", "type HashSet<u8>", of_bytes(2, 4, 4), [4])
     written(family, "U+1F600", "text", "\U0001f600", of_bytes(4, 240, 159, 152, 128))
+    read(family, "1.5 under 4", "type f32", of_bytes(0, 0, 192, 63), 1.5, {"limit": 4})
+    refused(family, "1.5 under 3", "type f32", of_bytes(0, 0, 192, 63), {"limit": 3}, name="LimitExceeded")
+    read(family, "-0.0", "type f64", bytes(7) + of_bytes(128), -0.0)
+    read(family, "all ones as f32", "type f32", bytes([255] * 4), "NaN")
+    refused(family, "three bytes as f32", "type f32", bytes(3), name="UnexpectedEnd", additional=1)
+    written(family, "1.5f32, big", "type f32", 1.5, of_bytes(63, 192, 0, 0), BIG)
+    read(family, "a zero for both", "type BTreeMap<OrderedFloat<f32>, u8>", of_bytes(2, 0, 0, 0, 128, 7, 0, 0, 0, 0, 8), [[-0.0, 8]])
     for limit in range(28, 32):
         refused(family, f"the nested list under {limit}", "[[u8]] = Vec<Vec<u8>>", of_bytes(1, 2, 7, 8), {"limit": limit}, name="LimitExceeded")
     read(family, "the nested list under 32", "[[u8]] = Vec<Vec<u8>>", of_bytes(1, 2, 7, 8), [[7, 8]], {"limit": 32})
@@ -568,6 +720,7 @@ CLAIMS = {
     "i64 = NonZeroI64": 8, "i128 = NonZeroI128": 16, "isize = NonZeroIsize": 8, "Duration": 12, "([u8; 16], u16) = SocketAddrV6": 18, "([u8; 4], u16)|([u8; 16], u16) = SocketAddr": 22, "u64 = Reverse<u64>": 8, "u64 = Cell<u64>": 8, "u64 = RefCell<u64>": 8,
     "u16 = Cow<u16>": 2, "Box<u16>": 8, "Rc<u16>": 8, "Arc<u16>": 8, "&str": 16, "&[u8]": 16, "BoxedStr": 16, "RcStr": 16, "BoxedSlice<u8>": 16, "RcSlice<u8>": 16,
     "[u8] = BinaryHeap<u8>": 24, "[u8] = BTreeSet<u8>": 24, "[(u8, u8)] = BTreeMap<u8, u8>": 24, "[u8] = HashSet<u8>": 24, "[(u8, u8)] = HashMap<u8, u8>": 24, "CString": 24, "PathBuf": 24, "CowStr": 24,
+    "f32": 4, "f64": 8, "OrderedFloat<f32>": 4, "OrderedFloat<f64>": 8, "Option<f64>": 9, "[f32; 3]": 12, "(f32, u16)": 6, "Bound<f32>": 8, "Box<f64>": 8, "Cow<OrderedFloat<f64>>": 8,
     "[u8] = CowSlice<u8>": 24, "u64? = Option<Box<u64>>": 9, "(Box<u64>, &str)": 24, "[RcStr; 3]": 48,
 }
 # The same of elements without bytes, which are all there.
@@ -595,7 +748,7 @@ def main():
     with open(PATH, encoding="utf-8") as file:
         worked = [one for one in json.load(file) if one["family"] == "worked"]
     for make in (of_unsigned, of_signed, of_first_bytes, of_spellings, of_ends, of_limits, of_scalars, of_choices, of_wholes, of_lists, of_texts, of_short_slices,
-                 of_unfit, of_not_zero, of_durations, of_c_strings, of_maps, of_addresses, of_pointers, of_claims, of_examples):
+                 of_unfit, of_not_zero, of_durations, of_c_strings, of_maps, of_addresses, of_pointers, of_claims, of_floats, of_examples):
         make()
     lines = [json.dumps(one, ensure_ascii=False, separators=(",", ":")) for one in worked + rows]
     with open(PATH, "w", encoding="utf-8") as file:

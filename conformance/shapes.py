@@ -4,6 +4,7 @@ import re
 SIZES = {"8": 1, "16": 2, "32": 4, "64": 8, "128": 16, "size": 8}
 WIDTHS = {kind + bits: width for kind in "ui" for bits, width in SIZES.items()}
 SCALARS = [*WIDTHS, "bool", "char"]
+FLOATS = {"f32": 4, "f64": 8}
 
 
 class Shape:
@@ -19,7 +20,7 @@ class Shape:
         """How many bytes a container claims for an element (section 8)."""
         parts = [part.claim for part in self.parts]
         of_kind = {"unit": 1, "bool": 1, "char": 4, "text": 24, "list": 24, "array": self.count * sum(parts), "tuple": sum(parts),
-                   "option": 1 + sum(parts), "choice": 4 + max(parts, default=-3), **WIDTHS}
+                   "option": 1 + sum(parts), "choice": 4 + max(parts, default=-3), **WIDTHS, **FLOATS}
         return min(max(of_kind[self.kind], 1), 2**64 - 1)
 
     def but(self, **changed):
@@ -28,7 +29,7 @@ class Shape:
 
 def named(name, inner):
     """The type of this name, with its type parameters."""
-    if name in SCALARS or name == "text":
+    if name in SCALARS or name in FLOATS or name == "text":
         return Shape(name)
     if name in ALIASES:
         return parsed(ALIASES[name])
@@ -54,7 +55,7 @@ OTHERS = {
     "RangeInclusive": lambda part: Shape("tuple", part, part),
     "Duration": lambda: Shape("tuple", Shape("u64"), Shape("u32"), rule="Duration"),
     "Reverse": lambda part: part.but(rule="Reverse"),
-    **{name: lambda part: part for name in ("Wrapping", "Cell", "RefCell", "Cow")},
+    **{name: lambda part: part for name in ("Wrapping", "Cell", "RefCell", "Cow", "OrderedFloat")},
     **{name: lambda part: part.but(claim=8) for name in ("Box", "Rc", "Arc")},
     **{name: lambda: Shape("text", claim=16) for name in ("BoxedStr", "RcStr")},
     **{name: lambda item: Shape("list", item, rule="set") for name in ("BTreeSet", "HashSet")},
@@ -150,6 +151,10 @@ def key_of(shape, value):
         return bytes(value) if shape.rule == "CString" else value.encode()
     if shape.kind == "tuple":
         return [key_of(part, item) for part, item in zip(shape.parts, value)]
+    if shape.kind in FLOATS:
+        # By the number, and NaN last. To add 0.0 makes one key of both zeros.
+        is_nan, turn = value == "NaN", -1 if shape.rule == "Reverse" else 1
+        return [turn * is_nan + 0.0, turn * (0.0 if is_nan else float(value)) + 0.0]
     return -int(value) if shape.rule == "Reverse" else int(value) if shape.kind in WIDTHS else value
 
 

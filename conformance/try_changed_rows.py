@@ -33,6 +33,8 @@ def other(draw, value, is_hex):
         return not value
     if isinstance(value, int):
         return value + draw.choice([-1, 1])
+    if isinstance(value, float):
+        return draw.choice([-value, value + 1 if abs(value) < 2**20 else 0.0])
     if isinstance(value, str):
         return value + "x"
     return 7 if value is None else [0]

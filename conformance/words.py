@@ -1,12 +1,33 @@
 """Encodings and their values: what is read of some bytes, and what is written, by sections 3 to 11 of docs/FORMAT.md."""
-import re
+import math, re, struct
 
-from shapes import SCALARS, WIDTHS, kept
+from shapes import FLOATS, SCALARS, WIDTHS, kept
 
 BYTES_AFTER = {251: 2, 252: 4, 253: 8, 254: 16}
 # Of each form of a character: its first bytes, how many bytes it has, the base of its first digit, and its code points.
 FORMS = [(range(0, 128), 1, 128, [range(0, 128)]), (range(194, 224), 2, 32, [range(128, 2048)]),
          (range(224, 240), 3, 16, [range(2048, 55296), range(57344, 65536)]), (range(240, 245), 4, 8, [range(65536, 1114112)])]
+
+
+# Of each float: its format of IEEE 754 in `struct`, highest byte first, and what is written of every NaN.
+FORMATS = {"f32": (">f", bytes.fromhex("7fc00000")), "f64": (">d", bytes.fromhex("7ff8000000000000"))}
+NOT_FINITE = ("NaN", "inf", "-inf")
+
+
+def packed(kind, number):
+    """The bits of a number, highest byte first; None where it is too large for the float."""
+    try:
+        return struct.pack(FORMATS[kind][0], number)
+    except OverflowError:
+        return None
+
+
+def unpacked(kind, bits):
+    """The JSON of the float of these bits: rounded to the fewest digits that read back to them."""
+    number, = struct.unpack(FORMATS[kind][0], bits)
+    if math.isfinite(number):
+        return next(found for found in (float(f"{number:.{places}e}") for places in range(17)) if packed(kind, found) == bits)
+    return "NaN" if math.isnan(number) else "inf" if number > 0 else "-inf"
 
 
 class Fault(Exception):
@@ -50,6 +71,11 @@ class Reader:
         if not is_signed:
             return number
         return -(number + 1) // 2 if number % 2 else number // 2
+
+    def float(self, kind):
+        self.charge(FLOATS[kind])
+        bits = self.bytes(FLOATS[kind])
+        return unpacked(kind, bits if self.order == "big" else bits[::-1])
 
     def char(self, _):
         first = self.bytes(1)[0]
@@ -130,6 +156,8 @@ class Reader:
         return None
 
     def value(self, shape):
+        if shape.kind in FLOATS:
+            return self.float(shape.kind)
         if shape.kind not in WIDTHS:
             return getattr(self, shape.kind)(shape)
         number = self.number(shape.kind)
@@ -148,7 +176,7 @@ def decode(shape, read, order="little", integers="varint", limit=None, stream=Fa
         told = fault.told
     if told["name"] == "UnexpectedEnd" and stream:
         told = {"name": "Io"}
-    elif told["name"] == "UnexpectedEnd" and shape.kind not in SCALARS:
+    elif told["name"] == "UnexpectedEnd" and shape.kind not in (*SCALARS, *FLOATS):
         told = {"name": "UnexpectedEnd"}
     return {"fault": told}
 
@@ -181,6 +209,13 @@ class Writer:
             return self.pieces.append(bytes([value]))
         first = next(first for first, count in BYTES_AFTER.items() if value < 256**count)
         self.pieces += [bytes([first]), value.to_bytes(BYTES_AFTER[first], self.order)]
+
+    def float(self, kind, value):
+        is_finite = type(value) is float and math.isfinite(value)
+        self.want(is_finite or value in NOT_FINITE)
+        bits = FORMATS[kind][1] if value == "NaN" else packed(kind, float(value))
+        self.want(bits)
+        self.pieces.append(bits if self.order == "big" else bits[::-1])
 
     def text(self, shape, value):
         self.want(isinstance(value, list if shape.rule == "CString" else str))
@@ -244,6 +279,8 @@ class Writer:
         if shape.kind in WIDTHS:
             self.want(shape.rule != "NonZero" or value != 0)
             self.number(shape.kind, value)
+        elif shape.kind in FLOATS:
+            self.float(shape.kind, value)
         else:
             getattr(self, shape.kind)(shape, value)
 
