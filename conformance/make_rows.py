@@ -550,7 +550,7 @@ FLOAT_WIDTHS = {"f32": 4, "f64": 8}
 
 
 def single(value, how=STANDARD):
-    """The bytes of an `f32`."""
+    """The bytes of an `f32` other than -0.0."""
     return digits(NANS["f32"]["quiet"] if value == "NaN" else BITS["f32"][value], 4, how)
 
 
@@ -701,6 +701,8 @@ def of_examples():
     read(family, "all ones as f32", "type f32", bytes([255] * 4), "NaN")
     refused(family, "three bytes as f32", "type f32", bytes(3), name="UnexpectedEnd", additional=1)
     written(family, "1.5f32, big", "type f32", 1.5, of_bytes(63, 192, 0, 0), BIG)
+    written(family, "1.5f32", "type f32", 1.5, of_bytes(0, 0, 192, 63))
+    written(family, "a map of floats", "type BTreeMap<OrderedFloat<f32>, u8>", [[-2.0, 8], [1.5, 7]], of_bytes(2, 0, 0, 0, 192, 8, 0, 0, 192, 63, 7))
     read(family, "a zero for both", "type BTreeMap<OrderedFloat<f32>, u8>", of_bytes(2, 0, 0, 0, 128, 7, 0, 0, 0, 0, 8), [[-0.0, 8]])
     for limit in range(28, 32):
         refused(family, f"the nested list under {limit}", "[[u8]] = Vec<Vec<u8>>", of_bytes(1, 2, 7, 8), {"limit": limit}, name="LimitExceeded")
