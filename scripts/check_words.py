@@ -1,5 +1,5 @@
 #!/usr/bin/env python3
-"""Lists words of pages and messages that are not in their vocabulary, sentences without a verb, and lines of pages over
+"""Lists terms of pages and messages that are not in their vocabulary, sentences without a verb, and lines of pages over
 120 columns.
 
     scripts/check_words.py [PATH ..]

@@ -1,5 +1,5 @@
 //! Decoders, and how integers, floats, characters, `bool`, durations, octets, tags and texts are read through them.
-//! Functions charge and read in the order of docs/FORMAT.md, section 10. After an error the charges made before it stay.
+//! Functions charge and read in the order of docs/FORMAT.md, section 10. After an error the charges before it stay.
 #![tactic(auto)]
 
 pub mod borrow;

@@ -9,7 +9,7 @@ use Rattle.bincode_spec.specs.Meaning.{Meaning}
 use Rattle.bincode_spec.specs.Device.{DeviceErrors, CountRises, Takes}
 use Rattle.bincode_spec.specs.Answer.{Answer, Gave, Refused, PassedLimit, StepsOf}
 
--- the value is given for the meaning of the answer, which ends with these bytes left and at this charge
+-- the value is one that the meaning of the answer decodes to, which ends with these bytes left and at this charge
 pub record Decodes {A : Type 0} (DecodesTo : A → Type 0) (a : Answer A) (remaining : List ℕ) (charge : ℕ) : Type 0 where
   pub meaning : A
   pub answer_is : a ≡ Gave meaning remaining charge
@@ -33,7 +33,7 @@ MayReportMemory MayAllocate e = MayAllocate × (e ≡ Memory)
 abbrev pub IsExcused : DeviceErrors → Type 0 → ℕ → ℕ → DecodeError → Type 0
 IsExcused device MayAllocate before after e = MayReportMemory MayAllocate e ⊎ ((device.is_counted e × CountRises before after) ⊎ device.is_uncounted e)
 
--- what was taken is a word whose steps stay within the limit, and the value is given for its meaning
+-- what was taken is a word whose steps stay within the limit, and the value is one that it decodes to
 pub record WordRead (F : Format Meaning) (limit : Option ℕ) (input remaining : List ℕ) (DecodesTo : Meaning → Type 0) : Type 0 where
   pub word : List ℕ
   pub meaning : Meaning
@@ -60,7 +60,7 @@ EnforcesLimit F limit Excused input result = (steps : List Step) → StepsOf F i
 -- `old` and is at `new`; an excused error tells nothing of the bytes, and one by which bytes are lost leaves any.
 pub record IsRead {R T : Type 0} (is_known : R → Type 0) (remaining : R → List ℕ) (end_error : ℕ → DecodeError → Type 0) (Excused Loses : DecodeError → Type 0)
     (F : Format Meaning) (bound : Option ℕ) (DecodesTo : Meaning → T → Type 0) (result : Result T DecodeError) (old new : R) : Type 0 where
-  -- what is taken is a word within the limit, and the value is given for its meaning
+  -- what is taken is a word within the limit, and the value is one that it decodes to
   pub word : is_known old → IfOk result (λ v. WordRead F bound (remaining old) (remaining new) (λ m. DecodesTo m v))
   -- each word within the limit is read,
   pub found : is_known old → AcceptsAll F bound Excused (remaining old) result

@@ -36,7 +36,7 @@ pub record FitsExactly (Allowed : List ℕ → Type 0) (OwnErrors : EncodeError 
 abbrev pub EndsSlice : ℕ → DecodeError → Type 0
 EndsSlice missing e = e ≡ UnexpectedEnd missing
 
--- the first n bytes are a word whose steps stay within the limit, and the value is given for its meaning
+-- the first n bytes are a word whose steps stay within the limit, and the value is one that it decodes to
 pub record IsDecoded (F : Format Meaning) (limit : Option ℕ) (input : List ℕ) (DecodesTo : Meaning → Type 0) (n : ℕ) : Type 0 where
   pub word : List ℕ
   pub remaining : List ℕ
@@ -62,7 +62,7 @@ KeepsLimit F limit MayAllocate input result = EnforcesLimit F limit (MayReportMe
 
 -- all that a call that decodes from a slice promises
 pub record IsAnswer {T : Type 0} (F : Format Meaning) (bound : Option ℕ) (MayAllocate : Type 0) (DecodesTo : Meaning → T → Type 0) (input : List ℕ) (result : Result (T × ℕ) DecodeError) : Type 0 where
-  -- what is read is a word within the limit, of this length, and the value is given for its meaning
+  -- what is read is a word within the limit, of this length, and the value is one that it decodes to
   pub word : IfOk result (λ x. IsDecoded F bound input (λ m. DecodesTo m x.0) x.1)
   -- each word within the limit is read,
   pub found : AcceptsAll F bound (MayReportMemory MayAllocate) input result

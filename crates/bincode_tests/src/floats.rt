@@ -34,7 +34,7 @@ fn are_bits_64<C: Config + Copy>(config: C, rows: &[(f64, [u8; 8])]) -> bool {
     true
 }
 
-/// Floats and their bits, lowest byte first: the sign, the exponent with its bias, and the digits after the leading one.
+/// Floats and their bits, lowest byte first: the sign, the exponent with its bias, the digits after the leading one.
 static LITTLE_32: [(f32, [u8; 4]); 9] = [
     (0.0, [0, 0, 0, 0]),
     (-0.0, [0, 0, 0, 0x80]),

@@ -75,8 +75,8 @@ pub trait Device {
             (may_leave self.new) }
         ensures cause { HasCause (faults self.old) (faults self.new) result };
 
-    /// Appends bytes to the log. Until a sync, and after an error, a crash leaves a prefix of them. Fails with `Failed`,
-    /// or with `Memory` before anything is appended. After `Ok` a sync does not fail with `Memory`.
+    /// Appends bytes to the log. Until a sync, and after an error, a crash leaves a prefix of them. Fails with
+    /// `Failed`, or with `Memory` before anything is appended. After `Ok` a sync does not fail with `Memory`.
     fn append(&mut self, bytes: &[u8]) -> Result<(), DeviceError>
         ensures appended { OnOk result (IsAppended bytes.now (seen self.old) (seen self.new)) }
         ensures refused { IsErrOf result Memory → seen self.new ≡ seen self.old }

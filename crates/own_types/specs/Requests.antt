@@ -10,7 +10,7 @@ use Rattle.own_types.specs.declared.requests.Request.{Request}
 abbrev pub IsBounded : {A : Type 0} → Format Meaning → ℕ → List ℕ → Request A → Type 0
 IsBounded F limit received request = WordBounded F limit (drop request.start received) request.size
 
--- at its start is a word of the request's length within the limit, and its value is given for the meaning of the word
+-- at its start is a word of the request's length within the limit, and its value is one that the word decodes to
 abbrev pub IsRead : {A : Type 0} → Format Meaning → Option ℕ → (Meaning → A → Type 0) → List ℕ → Request A → Type 0
 IsRead F limit DecodesTo received request = IsDecoded F limit (drop request.start received) (λ m. DecodesTo m request.value) request.size
 

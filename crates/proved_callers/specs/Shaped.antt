@@ -13,7 +13,7 @@ use Rattle.bincode_shape.specs.Rows.{AllowsImage}
 use Rattle.bincode_shape.specs.Shapes.{TakesMemory, IsImage, meaning}
 use Rattle.bincode_types.specs.TypeWords.{Words}
 
--- as many bytes were taken, and the value is given for the meaning of the other, which is an image of the shape
+-- as many bytes were taken, and the value is one that the meaning of the other decodes to, an image of the shape
 pub record SameImage {T : Type 0} (DecodesTo : Meaning → T → Type 0) (shape : Shape) (x : T × ℕ) (y : Value × ℕ) : Type 0 where
   pub same_length : y.1 ≡ x.1
   pub is_image : IsImage shape (meaning y.0) y.0

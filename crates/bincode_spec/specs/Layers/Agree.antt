@@ -7,7 +7,7 @@ use Rattle.bincode_spec.specs.Fault.{Fault, Tells, IsEnd}
 use Rattle.bincode_spec.specs.Meaning.{Meaning}
 use Rattle.bincode_spec.specs.Slice.{EndsSlice}
 
--- the values are given for one meaning, with the same number of bytes
+-- one meaning decodes to both values, with the same number of bytes
 pub record SameReading {T : Type 0} (DecodesTo : Meaning → T → Type 0) (x y : T × ℕ) : Type 0 where
   pub same_length : x.1 ≡ y.1
   pub meaning : Meaning

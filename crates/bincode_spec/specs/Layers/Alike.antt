@@ -14,7 +14,7 @@ pub data TellAlike (end_error end_error' : ℕ → DecodeError → Type 0) (d e 
 abbrev pub DeviceFailed : DeviceErrors → ℕ → ℕ → DecodeError → Type 0
 DeviceFailed device before after e = (device.is_counted e × CountRises before after) ⊎ device.is_uncounted e
 
--- the values are given for one meaning, and equal bytes and an equal charge are left
+-- one meaning decodes to both values, and equal bytes and an equal charge are left
 pub record GivenAlike {A T : Type 0} (DecodesTo : A → T → Type 0) (remaining remaining' : List ℕ) (charge charge' : ℕ) (v w : T) : Type 0 where
   pub meaning : A
   pub first : DecodesTo meaning v

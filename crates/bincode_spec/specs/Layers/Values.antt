@@ -11,8 +11,8 @@ use Rattle.bincode_spec.specs.Decoding.{Decodes, DecodeFailure}
 use Rattle.bincode_spec.specs.Run.{IsListOf}
 use Rattle.bincode_spec.specs.Layers.Releases.{ReleasesAtMost}
 
--- A decoder (`old` before, `new` after) read one value, from a charge of `charged`: it is given for the meaning of a
--- word, or the error tells why there is none. Failures don't fall, what remains stays known, no earlier charge is
+-- A decoder (`old` before, `new` after) read one value, from a charge of `charged`: it is one that a word decodes
+-- to, or the error says why there is none. Failures don't fall, what remains stays known, no earlier charge is
 -- released, after a success the charge is within the limit if it was before, and the references are unchanged.
 pub record Reads {D A T : Type 0} (is_known : D → Type 0) (remaining : D → List ℕ) (charge failures : D → ℕ) (loans : D → List GName) (limit : Option ℕ)
     (end_error : ℕ → DecodeError → Type 0) (device : DeviceErrors) (may_allocate : Type 0) (format : Format A) (decodes_to : A → T → Type 0) (charged : ℕ)
