@@ -7,6 +7,7 @@ use bincode::de::{BorrowDecode, Decode};
 use bincode::enc::Encode;
 use bincode::{borrow_decode_from_slice, config, decode_from_std_read, encode_into_std_write};
 use std::alloc::Global;
+use std::borrow::Cow;
 use std::cmp::OrderedFloat;
 use std::collections::BTreeMap;
 use test_helpers::checks::{
@@ -278,6 +279,37 @@ const LIST: [u8; 17] = [2, 0, 0, 0, 0, 0, 0, 0xF8, 0x3F, 0, 0, 0, 0, 0, 0, 0, 0x
 const ENTRIES: [u8; 11] = [2, 0, 0, 0xC0, 0x3F, 7, 0, 0, 0, 0xC0, 8];
 
 const SORTED: [u8; 11] = [2, 0, 0, 0, 0xC0, 8, 0, 0, 0xC0, 0x3F, 7];
+
+/// The two zeros as keys, which are equal: the first one stays, with the last value. So it is for two NaNs.
+const ZEROS: [u8; 11] = [2, 0, 0, 0, 0x80, 1, 0, 0, 0, 0, 2];
+
+const ZERO: [u8; 6] = [1, 0, 0, 0, 0x80, 2];
+
+const NANS: [u8; 11] = [2, 1, 0, 0x80, 0x7F, 1, 0, 0, 0xC0, 0xFF, 2];
+
+const NAN: [u8; 6] = [1, 0, 0, 0xC0, 0x7F, 2];
+
+/// Whether these entries are read as a map of one, which is written as this.
+fn becomes_one(alloc: Global, entries: &[u8], one: &[u8]) -> bool {
+    let map: Option<BTreeMap<OrderedFloat<f32>, u8>> = read_word(alloc, entries);
+    is_written_as(alloc, map, one)
+}
+
+#[test]
+fn keeps_one_of_equal_keys(rt: HostRuntime) {
+    let alloc = rt.alloc();
+    rows_hold(
+        &rt,
+        &[
+            ("zeros", becomes_one(alloc, &ZEROS, &ZERO)),
+            ("NaNs", becomes_one(alloc, &NANS, &NAN)),
+            (
+                "a float that may be borrowed",
+                each_call_keeps::<Cow<'static, OrderedFloat<f32>>>(alloc, &[0, 0, 0x80, 0x3F]),
+            ),
+        ],
+    );
+}
 
 #[test]
 fn keeps_lists_and_maps_of_floats(rt: HostRuntime) {
