@@ -12,6 +12,8 @@ mod after_faults;
 #[cfg(test)]
 mod asserts;
 #[cfg(test)]
+mod atomics;
+#[cfg(test)]
 mod blocks;
 #[cfg(test)]
 mod borrowed;
