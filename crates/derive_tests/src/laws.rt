@@ -28,6 +28,7 @@ Wrapping<u8> -> nothing
 Reverse<u8> -> nothing
 Cell<u8> -> Plain, Exact, Canonical
 std::cell::RefCell<u8> -> Plain, Exact, Canonical
+std::sync::atomic::AtomicU64 -> Plain, Exact, Canonical
 Cow<'static, u8> -> nothing
 (Ipv4Addr, Ipv6Addr, IpAddr, SocketAddrV4) -> nothing
 SocketAddrV6 -> Exact

@@ -117,10 +117,14 @@ pub const NOTHING: Keeps = Keeps {
     is_lent: false,
 };
 
+/// The types whose values no contract knows.
+const CELLS: &str = "Cell RefCell AtomicBool AtomicU8 AtomicU16 AtomicU32 AtomicU64 AtomicUsize \
+    AtomicI8 AtomicI16 AtomicI32 AtomicI64 AtomicIsize";
+
 /// What a name of the library keeps. A heap has no `==`, and others are equal by more than what is written of them: a
 /// range by whether it is exhausted, and an address of version 6 by its flow and its scope.
 fn library_keeps(name: &str) -> Keeps {
-    let is_plain = !is_listed(name, "Cell RefCell");
+    let is_plain = !is_listed(name, CELLS);
     let is_not_exact = is_listed(name, "BinaryHeap RangeInclusive SocketAddr SocketAddrV6");
     Keeps {
         plain: is_plain,

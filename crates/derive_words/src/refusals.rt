@@ -221,8 +221,6 @@ const NO_WORDS_FOR: &str = "\
 Self: hold items in a `Vec`, and name them by index
 CStr: hold a `CString`
 Instant SystemTime: hold a `Duration` or a number
-AtomicBool AtomicU8 AtomicU16 AtomicU32 AtomicU64 AtomicUsize: hold the value
-AtomicI8 AtomicI16 AtomicI32 AtomicI64 AtomicIsize: hold the value
 Weak: hold a number that names the value
 Mutex RwLock OnceLock: hold the value, and lock the whole
 LinkedList: hold a `Vec` or a `VecDeque`
