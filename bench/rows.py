@@ -250,6 +250,7 @@ PLAIN = {
 HELD = {
     "list_u32": "Vec<u32>",
     "list_u64": "Vec<u64>",
+    "list_f64": "Vec<f64>",
     "bytes": "Vec<u8>",
     "text": "String",
     "map": "BTreeMap<u32, u64>",

@@ -25,7 +25,7 @@ NAMES = {
     "std::borrow": ("Cow", "CowSlice", "CowStr"),
     "std::boxed": ("BoxedSlice", "BoxedStr"),
     "std::cell": ("Cell", "RefCell"),
-    "std::cmp": ("Reverse",),
+    "std::cmp": ("OrderedFloat", "Reverse"),
     "std::collections": ("BTreeMap", "BTreeSet", "BinaryHeap", "HashMap", "HashSet", "VecDeque"),
     "std::marker": ("PhantomData",),
     "std::net": ("IpAddr", "Ipv4Addr", "Ipv6Addr", "SocketAddr", "SocketAddrV4", "SocketAddrV6"),

@@ -113,6 +113,18 @@ impl Drawn for i64 {
     }
 }
 
+/// Of any bits but those of a NaN, whose bits the port does not keep.
+impl Drawn for f64 {
+    fn drawn(kind: Kind, items: usize, random: &mut Random) -> f64 {
+        let drawn = f64::from_bits(random.next());
+        if drawn.is_nan() {
+            f64::drawn(kind, items, random)
+        } else {
+            drawn
+        }
+    }
+}
+
 impl Drawn for bool {
     fn drawn(_kind: Kind, _items: usize, random: &mut Random) -> bool {
         random.flip()

@@ -1,6 +1,6 @@
 //! Inputs: words of a shape, right ones and such with something wrong in them, and what is made of them.
 use crate::shape::{Letters, Shape};
-use crate::walk::Setting;
+use crate::walk::{Setting, infinity};
 
 /// A generator of random numbers (SplitMix64).
 pub struct Random(u64);
@@ -62,6 +62,36 @@ impl Random {
             _ => whole - self.below(4) as u128,
         };
         drawn & whole
+    }
+
+    /// The bits of a float of so many bytes: any, those of a NaN, of one below the normal ones, of a bound, or of a small number.
+    fn float(&mut self, width: usize) -> u128 {
+        let (sign, infinity) = (1u128 << (8 * width - 1), infinity(width));
+        // the lowest bit of the exponent
+        let exponent = infinity & infinity.wrapping_neg();
+        let fraction = self.wide() & (exponent - 1);
+        let drawn = match self.below(8) {
+            0..=2 => self.wide() & (sign - 1),
+            3 => infinity | fraction.max(1),
+            4 => infinity | 1 << self.below(exponent.trailing_zeros() as usize),
+            5 => fraction,
+            6 => {
+                let bounds = [
+                    0,
+                    1,
+                    exponent - 1,
+                    exponent,
+                    infinity - 1,
+                    infinity,
+                    infinity + 1,
+                    sign - 1,
+                ];
+                bounds[self.below(bounds.len())]
+            }
+            _ if width == 4 => (self.below(1000) as f32 / 4.0).to_bits().into(),
+            _ => (self.below(1000) as f64 / 4.0).to_bits().into(),
+        };
+        drawn | if self.once_in(2) { sign } else { 0 }
     }
 }
 
@@ -262,6 +292,10 @@ impl Drawing<'_> {
                 }
                 self.number(number, *width);
             }
+            Shape::Float { width } => {
+                let bits = self.random.float(*width);
+                self.digits(bits, *width);
+            }
             Shape::Bool => {
                 let byte = if self.is_wrong() {
                     self.random.next() as u8
@@ -309,6 +343,21 @@ impl Drawing<'_> {
             }
         }
     }
+}
+
+/// The bytes of NaNs of a float of so many bytes, the lowest first: of both signs, all whose fraction has nothing but its 16 lowest bits, and for an
+/// `f64` those with nothing but its 16 highest.
+pub fn nans(width: usize) -> Vec<Vec<u8>> {
+    let infinity = infinity(width);
+    let mut nans = vec![];
+    for sign in [0, 1u128 << (8 * width - 1)] {
+        for shift in [0, 36].iter().take(width / 4) {
+            nans.extend((1..1u128 << 16).map(|part| sign | infinity | part << shift));
+        }
+    }
+    nans.iter()
+        .map(|bits| bits.to_le_bytes()[..width].to_vec())
+        .collect()
 }
 
 pub const SORTS: [&str; 8] = [

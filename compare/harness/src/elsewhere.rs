@@ -5,8 +5,8 @@ use std::collections::BTreeMap;
 use std::fs;
 use std::io;
 
-/// How many calls a file has.
-const IN_FILE: usize = 40_000;
+/// How many calls a file has: `rt try` keeps a mebibyte of what the program prints of a file, a line for each call that it answers otherwise.
+const IN_FILE: usize = 10_000;
 
 /// Files of calls in a folder.
 pub struct Files {

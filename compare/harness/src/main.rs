@@ -18,6 +18,7 @@ use crate::children::{ask_apart, is_memory};
 use crate::draw::{Random, SORTS};
 use crate::elsewhere::{Files, asked_at, count_calls, told};
 use crate::reasons::{Reason, Rooms, explain, explain_answers};
+use crate::shape::Shape;
 use crate::sides::*;
 use crate::smallest::smallest;
 use crate::walk::{PORT, Walk};
@@ -54,6 +55,8 @@ struct Found {
 struct Counts {
     calls: u64,
     inputs: [u64; SORTS.len()],
+    /// NaNs that are read one after the other.
+    nans: u64,
     /// Inputs that are not read without a limit, since one of their containers is too large.
     large: u64,
     /// Inputs that are not read at all: they have too many items without bytes.
@@ -70,6 +73,7 @@ struct Counts {
 impl Counts {
     fn add(&mut self, other: &Counts) {
         self.calls += other.calls;
+        self.nans += other.nans;
         self.large += other.large;
         self.endless += other.endless;
         self.fine += other.fine;
@@ -270,6 +274,37 @@ impl Job<'_> {
         }
     }
 
+    /// Reads the NaNs of `draw::nans` of each type that is a float, in the four settings in turn, by a half of so many calls: each of them, or each
+    /// of some.
+    fn ask_nans(&mut self, calls: u64) {
+        let kinds = self.kinds;
+        let floats: Vec<_> = kinds
+            .iter()
+            .filter_map(|kind| match kind.shape {
+                Shape::Float { width } => Some((kind, draw::nans(width))),
+                _ => None,
+            })
+            .collect();
+        let count: usize = floats.iter().map(|(_, nans)| nans.len()).sum();
+        let step = count.div_ceil((calls as usize / 2).max(1)).max(1);
+        for (kind, nans) in floats {
+            for (number, nan) in nans.iter().step_by(step).enumerate() {
+                let call = Call {
+                    kind,
+                    call: kind.reading(),
+                    configuration: number % SETTINGS.len(),
+                    numbers: (0, 0),
+                };
+                let mut input = nan.clone();
+                if call.setting().is_big {
+                    input.reverse();
+                }
+                self.counts.nans += 1;
+                self.ask(number as u64, call, &input);
+            }
+        }
+    }
+
     fn ask_all(&mut self, number: u64) {
         let random = &mut Random::new(self.seed, number);
         let kinds = self.kinds;
@@ -319,6 +354,7 @@ fn work(
     kinds: &[Kind],
     seed: u64,
     calls: u64,
+    is_first: bool,
     next: &AtomicU64,
     made: &AtomicU64,
 ) -> (Counts, Vec<Found>) {
@@ -330,6 +366,11 @@ fn work(
         found: vec![],
         files: None,
     };
+    // the first job alone
+    if is_first {
+        job.ask_nans(calls);
+        made.fetch_add(job.counts.calls, Ordering::Relaxed);
+    }
     while made.load(Ordering::Relaxed) < calls {
         let before = job.counts.calls;
         let first = BLOCK * next.fetch_add(1, Ordering::Relaxed);
@@ -401,6 +442,7 @@ fn print(counts: &Counts, found: &mut [Found]) {
         "  {:>12} of them begin with a value, which was written again",
         counts.fine
     );
+    println!("NaNs that were read one after the other: {}", counts.nans);
     println!("calls of each side: {}", counts.calls);
     for (call, count) in CALLS.iter().zip(counts.by_call) {
         println!("  {count:>12} {call}");
@@ -436,10 +478,11 @@ fn ask_both(words: &[String]) -> ExitCode {
     let (next, made) = (AtomicU64::new(0), AtomicU64::new(0));
     let whole = Mutex::new((Counts::default(), vec![]));
     thread::scope(|scope| {
-        for _ in 0..jobs {
-            scope.spawn(|| {
+        for job in 0..jobs {
+            let (next, made, whole) = (&next, &made, &whole);
+            scope.spawn(move || {
                 let kinds = Kind::all();
-                let (counts, found) = work(&kinds, seed, calls, &next, &made);
+                let (counts, found) = work(&kinds, seed, calls, job == 0, next, made);
                 let mut whole = whole.lock().expect("a job failed");
                 whole.0.add(&counts);
                 whole.1.extend(found);
@@ -470,6 +513,8 @@ fn write_calls(words: &[String]) -> ExitCode {
         found: vec![],
         files: Some(Files::new(words.get(2).expect("a folder"))),
     };
+    job.ask_nans(calls);
+    let nans = job.counts.nans;
     let mut number = 0;
     while job.counts.calls < calls {
         job.ask_all(number);
@@ -481,7 +526,7 @@ fn write_calls(words: &[String]) -> ExitCode {
         .end()
         .expect("the folder of calls is there");
     println!(
-        "seed {seed}, {} types, {number} inputs, {} calls",
+        "seed {seed}, {} types, {nans} NaNs in turn, {number} inputs, {} calls",
         kinds.len(),
         job.counts.calls
     );
@@ -535,7 +580,8 @@ fn judge(words: &[String]) -> ExitCode {
         let answers =
             fs::read_to_string(format!("{folder}/answers_{part}")).expect("the answers are there");
         let told = told(&answers);
-        are_all_there &= !told.is_empty();
+        let files = fs::read_dir(format!("{folder}/{part}")).expect("the calls are there");
+        are_all_there &= told.len() == files.count();
         for (file, differing) in told {
             let calls = fs::read(format!("{folder}/{part}/{file}")).expect("the calls are there");
             counts.calls += count_calls(&kinds, &calls);
@@ -557,6 +603,9 @@ fn judge(words: &[String]) -> ExitCode {
         ROWS.len()
     );
     print_differences(&counts, &mut found);
+    if !are_all_there {
+        println!("not all calls were answered");
+    }
     match (counts.unexplained, are_all_there) {
         (_, false) => ExitCode::from(2),
         (0, true) => ExitCode::SUCCESS,

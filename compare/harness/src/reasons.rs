@@ -3,8 +3,8 @@ use crate::answer::{
     Answer, Fault, INVALID_INTEGER_TYPE, IO, LIMIT_EXCEEDED, UNEXPECTED_OF_LIST,
     UNEXPECTED_VARIANT, UNLISTED_VARIANT,
 };
-use crate::sides::{CONFIGURATIONS, Call, Side};
-use crate::walk::{BETWEEN, Counting, ORIGINAL, PORT, Walk, form_of};
+use crate::sides::{CONFIGURATIONS, Call, Side, TO_VECTOR};
+use crate::walk::{BETWEEN, Counting, ORIGINAL, PORT, Walk, form_of, with_one_nan};
 use original::calls::HEAD;
 
 #[derive(Clone, Copy, Debug, PartialEq, Eq, PartialOrd, Ord)]
@@ -17,6 +17,7 @@ pub enum Reason {
     TypeName,
     Listed,
     Order,
+    Nan,
     Memory,
 }
 
@@ -42,6 +43,9 @@ impl Reason {
             }
             Reason::Listed => {
                 "`UnexpectedVariant { found, type_name, allowed }` is two variants, one of them `UnlistedVariant` for a list"
+            }
+            Reason::Nan => {
+                "a NaN of `f32` and `f64` is one value: each of its bit patterns decodes to it, and it is written as `0x7fc00000` or `0x7ff8000000000000`"
             }
             Reason::Memory => {
                 "`EncodeError::Memory` and `DecodeError::Memory` are new: in the crate memory that is wanting aborts the program"
@@ -165,7 +169,41 @@ fn is_reordered(call: &Call<'_>, one: &[u8], other: &[u8]) -> bool {
     call.kind.shape.has_bag() && form(one).is_some() && form(one) == form(other)
 }
 
-/// Of encodings into a room: the same values in another order, if they are whole; else as much of each.
+/// Why two encodings of a value differ: the port's has its own bits for each NaN of the original's, or the items of bags in another order.
+fn of_values(call: &Call<'_>, one: &[u8], other: &[u8]) -> Option<Vec<Reason>> {
+    let with_one_nan = |bytes| with_one_nan(&call.kind.shape, call.setting(), bytes);
+    let expected = with_one_nan(one)?;
+    let mut reasons = vec![];
+    if expected != one {
+        reasons.push(Reason::Nan);
+    }
+    if expected != other {
+        let is_order = with_one_nan(other)? == other && is_reordered(call, &expected, other);
+        reasons.push(is_order.then_some(Reason::Order)?);
+    }
+    (!reasons.is_empty()).then_some(reasons)
+}
+
+/// Whether rooms hold as much of the original's encoding and of the same with the port's NaNs: a byte that differs has to be that byte of each.
+fn is_nan_in_part(call: &Call<'_>, input: &[u8], one: &[u8], other: &[u8]) -> bool {
+    let written = Call {
+        call: TO_VECTOR,
+        ..*call
+    };
+    let Answer::Fine(_, whole) = written.ask(Side::Original, input) else {
+        return false;
+    };
+    let Some(expected) = with_one_nan(&call.kind.shape, call.setting(), &whole) else {
+        return false;
+    };
+    let is_byte = |at: usize, one: u8, other: u8| {
+        whole.get(at) == Some(&one) && expected.get(at) == Some(&other)
+    };
+    let mut pairs = one.iter().zip(other).enumerate();
+    pairs.all(|(at, (one, other))| one == other || is_byte(at, *one, *other))
+}
+
+/// Of encodings into a room: the same values, if they are whole; else as much of each.
 fn of_rooms(
     call: &Call<'_>,
     input: &[u8],
@@ -173,15 +211,21 @@ fn of_rooms(
     count: Option<u64>,
 ) -> Option<Vec<Reason>> {
     let held = [rooms.original, rooms.port].map(|room| &room[HEAD..HEAD + call.span(input)]);
-    let is_order = match count {
-        Some(count) => {
-            let [one, other] = held.map(|held| held.get(..count as usize));
-            let rest = held[0][count as usize..] == held[1][count as usize..];
-            rest && is_reordered(call, one?, other?)
-        }
-        None => call.kind.shape.has_bag(),
+    let Some(count) = count else {
+        let reason = if call.kind.shape.has_bag() {
+            Reason::Order
+        } else {
+            is_nan_in_part(call, input, held[0], held[1]).then_some(Reason::Nan)?
+        };
+        return Some(vec![reason]);
     };
-    is_order.then_some(vec![Reason::Order])
+    let (one, rest) = held[0].split_at_checked(count as usize)?;
+    let (other, others_rest) = held[1].split_at_checked(count as usize)?;
+    if rest == others_rest {
+        of_values(call, one, other)
+    } else {
+        None
+    }
 }
 
 /// Why two answers of a call that writes to a room differ, if docs/DIFFERENCES.md says so.
@@ -211,9 +255,11 @@ pub fn explain_answers(
 ) -> Option<Vec<Reason>> {
     let is_limited = |answer: &Answer| answer.kind() == Some(LIMIT_EXCEEDED);
     match (one, other) {
-        (Answer::Fine(count, bytes), Answer::Fine(others_count, others)) => (count == others_count
-            && is_reordered(call, bytes, others))
-        .then_some(vec![Reason::Order]),
+        (Answer::Fine(count, bytes), Answer::Fine(others_count, others))
+            if count == others_count =>
+        {
+            of_values(call, bytes, others)
+        }
         (one, other) if is_limited(one) != is_limited(other) => of_limit(call, input, one, other),
         (Answer::Failed(one, left), Answer::Failed(other, others_left)) => {
             let mut reasons = of_faults(one, other)?;

@@ -46,6 +46,7 @@ pub enum Holding {
 #[derive(Clone)]
 pub enum Shape {
     Number { width: usize, zero: bool },
+    Float { width: usize },
     Bool,
     Char,
     Parts(Vec<Shape>),
@@ -162,6 +163,8 @@ shaped_numbers! {
 
 const UNIT: Shape = Shape::Parts(vec![]);
 
+shaped!(f32, 4, Shape::Float { width: 4 });
+shaped!(f64, 8, Shape::Float { width: 8 });
 shaped!(bool, 1, Shape::Bool);
 shaped!(char, 4, Shape::Char);
 shaped!((), 1, UNIT);

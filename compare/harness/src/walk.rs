@@ -50,6 +50,8 @@ pub struct Walk<'a> {
     pub most_hashed: u128,
     /// The most items that a container of items without bytes has.
     pub most_empty: u128,
+    /// Where NaNs begin, and how many bytes each has.
+    nans: Vec<(usize, usize)>,
     /// The values that were read, in one form: numbers in 16 bytes, the items of a bag in order.
     pub form: Vec<u8>,
 }
@@ -64,6 +66,23 @@ fn width_of(first: u8) -> usize {
         224..=239 => 3,
         240..=244 => 4,
         _ => 0,
+    }
+}
+
+/// The bits of the infinity of a float of so many bytes.
+pub fn infinity(width: usize) -> u128 {
+    match width {
+        4 => f32::INFINITY.to_bits().into(),
+        _ => f64::INFINITY.to_bits().into(),
+    }
+}
+
+/// The bits that the port writes for each NaN, as docs/DIFFERENCES.md has them.
+fn nan(width: usize) -> u128 {
+    if width == 4 {
+        0x7fc0_0000
+    } else {
+        0x7ff8_0000_0000_0000
     }
 }
 
@@ -84,6 +103,7 @@ impl<'a> Walk<'a> {
             widest: 0,
             most_hashed: 0,
             most_empty: 0,
+            nans: vec![],
             form: vec![],
         }
     }
@@ -129,6 +149,16 @@ impl<'a> Walk<'a> {
             254 if width >= 16 => self.digits(16),
             _ => Err(INVALID_INTEGER_TYPE),
         }
+    }
+
+    fn float(&mut self, width: usize) -> Step<()> {
+        self.charge(width as u128)?;
+        let bits = self.digits(width as u64)?;
+        if bits & !(1 << (8 * width - 1)) > infinity(width) {
+            self.nans.push((self.at - width, width));
+        }
+        self.put(bits);
+        Ok(())
     }
 
     fn put(&mut self, number: u128) {
@@ -215,6 +245,7 @@ impl<'a> Walk<'a> {
                 }
                 self.put(number);
             }
+            Shape::Float { width } => self.float(*width)?,
             Shape::Bool => {
                 let byte = self.number(1)?;
                 if byte > 1 {
@@ -275,4 +306,22 @@ pub fn form_of(shape: &Shape, setting: Setting, bytes: &[u8]) -> Option<Vec<u8>>
     let mut walk = Walk::new(bytes, setting, PORT, None);
     walk.walk(shape).ok()?;
     (walk.at == bytes.len()).then_some(walk.form)
+}
+
+/// An encoding with the port's bits for each of its NaNs, if it is one and has all of the bytes.
+pub fn with_one_nan(shape: &Shape, setting: Setting, bytes: &[u8]) -> Option<Vec<u8>> {
+    let mut walk = Walk::new(bytes, setting, PORT, None);
+    walk.walk(shape).ok()?;
+    if walk.at != bytes.len() {
+        return None;
+    }
+    let mut written = bytes.to_vec();
+    for (at, width) in walk.nans {
+        let mut digits = nan(width).to_le_bytes();
+        if setting.is_big {
+            digits[..width].reverse();
+        }
+        written[at..at + width].copy_from_slice(&digits[..width]);
+    }
+    Some(written)
 }

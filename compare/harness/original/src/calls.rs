@@ -26,6 +26,7 @@ pub use std::sync::Arc;
 pub use std::time::Duration;
 
 // What has another name in the port.
+pub type OrderedFloat<T> = T;
 pub type BoxedStr = Box<str>;
 pub type BoxedSlice<T> = Box<[T]>;
 pub type RcStr = Rc<str>;
