@@ -106,5 +106,5 @@ fn follows_an_atomic(rt: HostRuntime) {
     number.store(300, Ordering::SeqCst);
     assert!(rt; is_encoded(&number, &[251, 44, 1], config::standard()));
     let read: Option<AtomicU32> = read_front(alloc, &[251, 44, 1], 3);
-    assert!(rt; matches!(read, Some(number) if number.load(Ordering::SeqCst) == 300));
+    assert!(rt; matches!(&read, Some(number) if number.load(Ordering::SeqCst) == 300));
 }

@@ -228,6 +228,14 @@ fn needs_its_width(rt: HostRuntime) {
     );
 }
 
+/// Whether an equal value was read, and all the bytes were taken.
+fn is_taken_whole<T: PartialEq>(outcome: &Option<(T, usize)>, value: &T, bytes: &[u8]) -> bool {
+    match outcome {
+        Some((read, taken)) => *read == *value && *taken == bytes.len(),
+        None => false,
+    }
+}
+
 /// Whether bytes are read by borrowing as an equal value, and by owning, and from a stream.
 fn is_read_as<'de, T>(alloc: Global, value: &T, bytes: &'de [u8]) -> bool
 where
@@ -237,9 +245,9 @@ where
     let owned: Option<(T, usize)> = decoded(alloc, bytes, config::standard()).ok();
     let mut stream = bytes;
     let streamed: Option<T> = decode_from_std_read(alloc, &mut stream, config::standard()).ok();
-    matches!(lent, Some((read, taken)) if read == *value && taken == bytes.len())
-        && matches!(owned, Some((read, taken)) if read == *value && taken == bytes.len())
-        && matches!(streamed, Some(read) if read == *value)
+    is_taken_whole(&lent, value, bytes)
+        && is_taken_whole(&owned, value, bytes)
+        && matches!(&streamed, Some(read) if *read == *value)
 }
 
 #[test]
@@ -317,7 +325,7 @@ fn keeps_lists_and_maps_of_floats(rt: HostRuntime) {
     let list = list_of(alloc, [1.5, -2.0]);
     assert!(rt; is_written_as(alloc, list, &LIST));
     let read: Option<Vec<f64>> = read_word(alloc, &LIST);
-    assert!(rt; matches!(read, Some(list) if list.as_slice() == [1.5, -2.0].as_slice()));
+    assert!(rt; matches!(&read, Some(list) if list.as_slice() == [1.5, -2.0].as_slice()));
     let map: Option<BTreeMap<OrderedFloat<f32>, u8>> = read_word(alloc, &ENTRIES);
     assert!(rt; matches!(&map, Some(map) if map.get(&OrderedFloat(-2.0)) == Some(&8)));
     assert!(rt; is_written_as(alloc, map, &SORTED));
