@@ -21,10 +21,10 @@ use test_helpers::checks::{is_passed, within};
 const NONE: [u8; 2] = [0, 9];
 
 /// A length of 2^64 - 1, after which nothing stands.
-static HUGE: [u8; 9] = [253, 255, 255, 255, 255, 255, 255, 255, 255];
+const HUGE: [u8; 9] = [253, 255, 255, 255, 255, 255, 255, 255, 255];
 
 /// A length of 100000, after which nothing stands.
-static LONG: [u8; 5] = [252, 160, 134, 1, 0];
+const LONG: [u8; 5] = [252, 160, 134, 1, 0];
 
 /// What comes of the bytes within a limit of 100000, at the first call.
 fn read<T: Decode<()>>(alloc: Global, bytes: &[u8]) -> Result<usize, bool> {
@@ -45,16 +45,19 @@ fn reads_none<T: Decode<()>>(alloc: Global) -> bool {
 }
 
 /// What comes of the bytes by borrowed decoding within a limit of 100000, at the first call.
-fn lend<T: BorrowDecode<&'static [u8], ()>>(
+fn lend<'a, T: BorrowDecode<&'a [u8], ()>>(
     alloc: Global,
-    source: &'static [u8],
+    source: &'a [u8],
 ) -> Result<(T, usize), DecodeError> {
     borrow_decode_from_slice(alloc, source, config::standard().with_limit::<100_000>())
 }
 
-/// Whether the two lengths exceed the limit by borrowed decoding.
-fn lends_none<T: BorrowDecode<&'static [u8], ()>>(alloc: Global) -> bool {
-    is_passed(lend::<T>(alloc, &HUGE)) && is_passed(lend::<T>(alloc, &LONG))
+/// Whether two lengths exceed the limit by borrowed decoding.
+fn lends_none<'a, T: BorrowDecode<&'a [u8], ()>>(
+    alloc: Global,
+    (huge, long): (&'a [u8], &'a [u8]),
+) -> bool {
+    is_passed(lend::<T>(alloc, huge)) && is_passed(lend::<T>(alloc, long))
 }
 
 /// hostile lengths of each container
@@ -90,36 +93,65 @@ fn reads_nothing_and_refuses_lengths_without_memory(rt: HostRuntime) {
             ("PathBuf", reads_none::<PathBuf>(alloc)),
         ],
     );
+    let (huge, long) = (HUGE, LONG);
+    let lengths: (&[u8], &[u8]) = (&huge, &long);
     all_hold(
         &rt,
         &[
-            ("Vec, borrowed", lends_none::<Vec<u32>>(alloc)),
-            ("Vec of bytes, borrowed", lends_none::<Vec<u8>>(alloc)),
-            ("VecDeque, borrowed", lends_none::<VecDeque<u32>>(alloc)),
-            ("BinaryHeap, borrowed", lends_none::<BinaryHeap<u32>>(alloc)),
-            ("BoxedSlice, borrowed", lends_none::<BoxedSlice<u32>>(alloc)),
-            ("RcSlice, borrowed", lends_none::<RcSlice<u32>>(alloc)),
-            ("Arc of a Vec, borrowed", lends_none::<Arc<Vec<u32>>>(alloc)),
+            ("Vec, borrowed", lends_none::<Vec<u32>>(alloc, lengths)),
+            (
+                "Vec of bytes, borrowed",
+                lends_none::<Vec<u8>>(alloc, lengths),
+            ),
+            (
+                "VecDeque, borrowed",
+                lends_none::<VecDeque<u32>>(alloc, lengths),
+            ),
+            (
+                "BinaryHeap, borrowed",
+                lends_none::<BinaryHeap<u32>>(alloc, lengths),
+            ),
+            (
+                "BoxedSlice, borrowed",
+                lends_none::<BoxedSlice<u32>>(alloc, lengths),
+            ),
+            (
+                "RcSlice, borrowed",
+                lends_none::<RcSlice<u32>>(alloc, lengths),
+            ),
+            (
+                "Arc of a Vec, borrowed",
+                lends_none::<Arc<Vec<u32>>>(alloc, lengths),
+            ),
             (
                 "CowSlice, borrowed",
-                lends_none::<CowSlice<'static, u8>>(alloc),
+                lends_none::<CowSlice<'_, u8>>(alloc, lengths),
             ),
-            ("BTreeSet, borrowed", lends_none::<BTreeSet<u32>>(alloc)),
+            (
+                "BTreeSet, borrowed",
+                lends_none::<BTreeSet<u32>>(alloc, lengths),
+            ),
             (
                 "BTreeMap, borrowed",
-                lends_none::<BTreeMap<u32, u32>>(alloc),
+                lends_none::<BTreeMap<u32, u32>>(alloc, lengths),
             ),
-            ("HashSet, borrowed", lends_none::<HashSet<u32>>(alloc)),
-            ("HashMap, borrowed", lends_none::<HashMap<u32, u32>>(alloc)),
-            ("String, borrowed", lends_none::<String>(alloc)),
-            ("BoxedStr, borrowed", lends_none::<BoxedStr>(alloc)),
-            ("RcStr, borrowed", lends_none::<RcStr>(alloc)),
-            ("CowStr, borrowed", lends_none::<CowStr<'static>>(alloc)),
-            ("CString, borrowed", lends_none::<CString>(alloc)),
-            ("PathBuf, borrowed", lends_none::<PathBuf>(alloc)),
-            ("&str", lends_none::<&'static str>(alloc)),
-            ("&[u8]", lends_none::<&'static [u8]>(alloc)),
-            ("Path", lends_none::<Path<'static>>(alloc)),
+            (
+                "HashSet, borrowed",
+                lends_none::<HashSet<u32>>(alloc, lengths),
+            ),
+            (
+                "HashMap, borrowed",
+                lends_none::<HashMap<u32, u32>>(alloc, lengths),
+            ),
+            ("String, borrowed", lends_none::<String>(alloc, lengths)),
+            ("BoxedStr, borrowed", lends_none::<BoxedStr>(alloc, lengths)),
+            ("RcStr, borrowed", lends_none::<RcStr>(alloc, lengths)),
+            ("CowStr, borrowed", lends_none::<CowStr<'_>>(alloc, lengths)),
+            ("CString, borrowed", lends_none::<CString>(alloc, lengths)),
+            ("PathBuf, borrowed", lends_none::<PathBuf>(alloc, lengths)),
+            ("&str", lends_none::<&str>(alloc, lengths)),
+            ("&[u8]", lends_none::<&[u8]>(alloc, lengths)),
+            ("Path", lends_none::<Path<'_>>(alloc, lengths)),
         ],
     );
 }
